@@ -1,4 +1,6 @@
-ghost use Rattle.std.specs.Prelude.{◌≡◌, ◌+◌, ◌^◌, ◌<◌, ◌≤◌, ◌++◌, drop, length, min, take};
+ghost use Rattle.std.specs.Prelude.{◌≡◌, ◌+◌, ◌^◌, ◌<◌, ◌≤◌, ◌++◌, drop, length, min, take, string_bytes, IfNone, IfSome, OnOk, OnErr, [], ◌∷◌};
+ghost use Rattle.pv_edge.specs.Files.{file};
+ghost use Rattle.pv_edge.specs.MemShelfState.{content_at, held_in};
 
 use crate::shelf::{Failed, Shelf};
 use indexmap::IndexMap;
@@ -45,7 +47,6 @@ impl Model for MemShelf {
 
 impl MemShelf {
     ghost use Rattle.std.specs.Prelude.{◌≡◌, ◌<◌, ◌↔◌, [], ◌∷◌, ◌++◌, IsSome, IsErrOf, OnOk, OnErr};
-    ghost use Rattle.pv_edge.specs.Files.{file};
 
     pub fn new(alloc: Global, piece: usize) -> MemShelf
         requires { 0 < piece }
@@ -65,20 +66,21 @@ impl MemShelf {
     }
 
     /// Holds one more file.
+    #[tactic(auto, using(crate::proofs::HeldLemmas::pushes))]
     pub fn put(&mut self, name: Text, content: Bytes) -> Result<(), PutFault>
         ensures ok { OnOk result (self.new ≡ record self.old { held = self.old.held ++ (name, content) ∷ [] }) }
         ensures taken { IsErrOf result PutFault.NameTaken ↔ IsSome (file self.old.held name) }
         ensures err { OnErr result (self.new ≡ self.old) }
     {
-        if self.files.contains_key(name.as_str()) {
+        if place_of(&self.files, name.as_str()).is_some() {
             return Err(PutFault::NameTaken);
         }
         let Ok(key) = String::from_str(self.alloc, name.as_str()) else {
             return Err(PutFault::Memory);
         };
-        match self.files.insert(key, content) {
-            Ok(_) => Ok(()),
-            Err(_) => Err(PutFault::Memory),
+        match hold(&mut self.files, key, content) {
+            Ok(()) => Ok(()),
+            Err(Memory) => Err(PutFault::Memory),
         }
     }
 
@@ -90,6 +92,26 @@ impl MemShelf {
         self.failing.push(call)?;
         Ok(())
     }
+}
+
+// Where the file of this name stands.
+#[tactic(auto, using(crate::proofs::HeldLemmas::file_held_in))]
+fn place_of(files: &IndexMap<String, Bytes>, name: &str) -> Option<usize>
+    ensures none { IfNone result (file (held_in files.now.entries) name.now ≡ None) }
+    ensures within { IfSome result (λ i. i < length files.now.entries) }
+    ensures content { IfSome result (λ i. file (held_in files.now.entries) name.now ≡ Some (content_at files.now.entries i)) }
+{
+    files.get_index_of(name)
+}
+
+// Puts the file of a new name last.
+fn hold(files: &mut IndexMap<String, Bytes>, name: String, content: Bytes) -> Result<(), Memory>
+    requires { file (held_in files.old.entries) (string_bytes name) ≡ None }
+    ensures ok { OnOk result (files.new.entries ≡ files.old.entries ++ (name, content) ∷ []) }
+    ensures err { OnErr result (files.new.entries ≡ files.old.entries) }
+{
+    files.insert(name, content)?;
+    Ok(())
 }
 
 // Fills the front of `buf` from the position on.
@@ -125,7 +147,7 @@ impl Shelf for MemShelf {
         let fails = self.failing.contains(&self.calls);
         self.calls = self.calls.wrapping_add(1);
         self.picked = None;
-        let Some(place) = self.files.get_index_of(name) else {
+        let Some(place) = place_of(&self.files, name) else {
             return Err(Failed);
         };
         if fails {

@@ -72,7 +72,10 @@ impl Sink for MemSink {
     fn write(&mut self, piece: &[u8]) -> Result<usize, Failed> {
         let fails = self.failing.contains(&self.calls);
         self.calls = self.calls.wrapping_add(1);
-        let count = piece.len().min(self.piece).min(self.room - self.bytes.len());
+        let count = piece
+            .len()
+            .min(self.piece)
+            .min(self.room - self.bytes.len());
         if fails || count == 0 {
             self.faults = self.faults.saturating_add(1);
             return Err(Failed);

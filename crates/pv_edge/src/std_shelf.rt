@@ -1,10 +1,9 @@
 ghost use Rattle.std.specs.Io.{ReadsAtMost};
 
 use crate::shelf::{Failed, Shelf};
-use std::fs;
-use std::io;
 use std::io::{ErrorKind, Read};
 use std::rt::Files;
+use std::{fs, io};
 
 #[derive(Drop)]
 enum Picked<R: Files + Input> {

@@ -1,4 +1,4 @@
-use Rattle.std.proofs.Common.{rules, arith}
+use Rattle.std.proofs.Common.{rules}
 use Rattle.pv_edge.proofs.PutLemmas.{sent_more}
 use Rattle.pv_edge.proofs.sink.put_all.Goals as goal
 
