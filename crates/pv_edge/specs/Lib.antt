@@ -1,3 +1,4 @@
+pub mod Failing
 pub mod Files
 pub mod Loading
 pub mod MemShelfState

@@ -133,7 +133,9 @@ fn give(content: &[u8], position: usize, piece: usize, buf: &mut [u8]) -> usize
 }
 
 impl Shelf for MemShelf {
-    ghost use Rattle.std.specs.Prelude.{Some};
+    ghost use Rattle.std.specs.Prelude.{◌-◌, ◌↔◌, IsErr, IsOk, IsNone, IsSome, IfOk, Some, true, false};
+    ghost use Rattle.std.specs.Io.{ReadsAtMost};
+    ghost use Rattle.pv_edge.specs.Failing.{is_due, one_more};
 
     ghost held = { λ m. Some m.held };
 
@@ -143,7 +145,21 @@ impl Shelf for MemShelf {
 
     ghost faults = { λ m. m.faults };
 
-    fn pick(&mut self, name: &str) -> Result<(), Failed> {
+    fn pick(&mut self, name: &str) -> Result<(), Failed>
+        ensures kept { self.new ≡ record self.old { rest = self.new.rest; faults = self.new.faults; calls = self.new.calls } }
+        ensures counted { self.old.calls < 2 ^ 64 - 1 → self.new.calls ≡ self.old.calls + 1 }
+
+        ensures picked { OnOk result (file self.old.held name.now ≡ Some self.new.rest) }
+        ensures no_fault { OnOk result (self.new.faults ≡ self.old.faults) }
+
+        ensures missing { IsNone (file self.old.held name.now) → IsErr result }
+        ensures missing_faults { IsNone (file self.old.held name.now) → self.new.faults ≡ self.old.faults }
+        ensures due { is_due self.old.failing self.old.calls ≡ true → IsErr result }
+        ensures due_faults { OnErr result (IsSome (file self.old.held name.now) → self.new.faults ≡ one_more self.old.faults) }
+        ensures succeeds { is_due self.old.failing self.old.calls ≡ false → IsSome (file self.old.held name.now) → IsOk result }
+        ensures nothing { OnErr result (self.new.rest ≡ []) }
+        ensures later { self.old.faults ≤ self.new.faults }
+    {
         let fails = self.failing.contains(&self.calls);
         self.calls = self.calls.wrapping_add(1);
         self.picked = None;
@@ -159,7 +175,24 @@ impl Shelf for MemShelf {
         Ok(())
     }
 
-    fn read(&mut self, buf: &mut [u8]) -> Result<usize, Failed> {
+    fn read(&mut self, buf: &mut [u8]) -> Result<usize, Failed>
+        requires room { 0 < length buf.old }
+        requires fits { self.old.given + length buf.old < 2 ^ 64 }
+        ensures kept { self.new ≡ record self.old { rest = self.new.rest; given = self.new.given; faults = self.new.faults; calls = self.new.calls } }
+        ensures counted { self.old.calls < 2 ^ 64 - 1 → self.new.calls ≡ self.old.calls + 1 }
+
+        ensures count { IfOk result (λ n. n ≡ min (min (length self.old.rest) (length buf.old)) self.old.piece) }
+        ensures bound { ReadsAtMost result buf.new }
+        ensures bytes { IfOk result (λ n. self.old.rest ≡ take n buf.new ++ self.new.rest) }
+        ensures end { IfOk result (λ n. (n ≡ 0) ↔ (self.old.rest ≡ [])) }
+        ensures nothing_left { IfOk result (λ n. n ≡ 0 → self.new.rest ≡ []) }
+        ensures given { IfOk result (λ n. self.new.given ≡ self.old.given + n) }
+        ensures no_fault { OnOk result (self.new.faults ≡ self.old.faults) }
+
+        ensures due { IsErr result ↔ (is_due self.old.failing self.old.calls ≡ true) }
+        ensures err { OnErr result (self.new ≡ record self.old { faults = one_more self.old.faults; calls = self.new.calls }) }
+        ensures later { self.old.faults ≤ self.new.faults }
+    {
         let fails = self.failing.contains(&self.calls);
         self.calls = self.calls.wrapping_add(1);
         if fails {

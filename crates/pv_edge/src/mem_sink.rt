@@ -63,13 +63,27 @@ impl MemSink {
 }
 
 impl Sink for MemSink {
-    ghost use Rattle.std.specs.Prelude.{Some};
+    ghost use Rattle.std.specs.Prelude.{◌≡◌, ◌+◌, ◌-◌, ◌^◌, ◌<◌, ◌≤◌, ◌++◌, length, min, take, IsErr, IsOk, IfOk, OnErr, Some, true, false};
+    ghost use Rattle.pv_edge.specs.Failing.{is_due, one_more};
 
     ghost took = { λ m. Some m.taken };
 
     ghost faults = { λ m. m.faults };
 
-    fn write(&mut self, piece: &[u8]) -> Result<usize, Failed> {
+    fn write(&mut self, piece: &[u8]) -> Result<usize, Failed>
+        requires { 0 < length piece.now }
+        ensures counted { self.old.calls < 2 ^ 64 - 1 → self.new.calls ≡ self.old.calls + 1 }
+
+        ensures count { IfOk result (λ n. n ≡ min (min (length piece.now) self.old.piece) (self.old.room - length self.old.taken)) }
+        ensures bytes { IfOk result (λ n. self.new ≡ record self.old { taken = self.old.taken ++ take n piece.now; calls = self.new.calls }) }
+        ensures some { IfOk result (λ n. 0 < n) }
+
+        ensures due { is_due self.old.failing self.old.calls ≡ true → IsErr result }
+        ensures full { self.old.room ≤ length self.old.taken → IsErr result }
+        ensures succeeds { is_due self.old.failing self.old.calls ≡ false → length self.old.taken < self.old.room → IsOk result }
+        ensures err { OnErr result (self.new ≡ record self.old { faults = one_more self.old.faults; calls = self.new.calls }) }
+        ensures later { self.old.faults ≤ self.new.faults }
+    {
         let fails = self.failing.contains(&self.calls);
         self.calls = self.calls.wrapping_add(1);
         let count = piece
