@@ -4,10 +4,13 @@
 mod loading;
 mod mem_shelf;
 mod mem_sink;
+mod retrying;
 mod shelf;
 mod sink;
 mod std_shelf;
 mod std_sink;
+#[cfg(test)]
+mod tests;
 
 pub use loading::{LoadFault, load};
 pub use mem_shelf::{MemShelf, PutFault};

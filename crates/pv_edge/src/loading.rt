@@ -125,6 +125,7 @@ pub fn load<F: Shelf>(
     // What comes of a file whose content is told.
     ensures missing { IsMissing (F.held shelf.old) name.now → IsErrOf result LoadFault.Failed }
     ensures missing_faults { IsMissing (F.held shelf.old) name.now → F.faults shelf.new ≡ F.faults shelf.old }
+    ensures missing_given { IsMissing (F.held shelf.old) name.now → F.given shelf.new ≡ F.given shelf.old }
     ensures whole { HoldsUpTo (F.held shelf.old) name.now limit → ¬ Rose (F.faults shelf.old) (F.faults shelf.new) → IsOkUnless result LoadFault.Memory }
     ensures refused { HoldsMoreThan (F.held shelf.old) name.now limit → ¬ Rose (F.faults shelf.old) (F.faults shelf.new) → IsErrOf result LoadFault.TooLarge ⊎ IsErrOf result LoadFault.Memory }
 

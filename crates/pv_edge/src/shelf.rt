@@ -7,9 +7,9 @@ ghost use Rattle.pv_edge.specs.Rising.{Rose};
 
 use thiserror::Error;
 
-/// A pick, a read or a write failed, and what makes it counts the fault; or the picked name is not held.
+/// A pick, a read or a write failed and is counted as a fault, or a picked name is not held, which is not counted.
 #[derive(Clone, Copy, Debug, PartialEq, Eq, Drop, Error)]
-#[error("a read or a write failed")]
+#[error("the device failed, or holds no file of that name")]
 pub struct Failed;
 
 /// Files by their names, of which one is read at a time.

@@ -1,9 +1,7 @@
-ghost use Rattle.std.specs.Io.{ReadsAtMost};
-
+use crate::retrying::read_again;
 use crate::shelf::{Failed, Shelf};
-use std::io::{ErrorKind, Read};
+use std::fs;
 use std::rt::Files;
-use std::{fs, io};
 
 #[derive(Drop)]
 enum Picked<R: Files + Input> {
@@ -83,19 +81,4 @@ impl<'a, R: Files + Input> Shelf for StdShelf<'a, R> {
             }
         }
     }
-}
-
-// How often a read is made again that a signal cut short before it gave anything.
-const TRIES: usize = 64;
-
-fn read_again<R: Read>(from: &mut R, buf: &mut [u8]) -> io::Result<usize>
-    ensures { ReadsAtMost result buf.new }
-{
-    for _ in 0..TRIES {
-        match from.read(buf) {
-            Err(e) if e.kind() == ErrorKind::Interrupted => {}
-            answer => return answer,
-        }
-    }
-    from.read(buf)
 }

@@ -1,3 +1,4 @@
+use crate::retrying::write_again;
 use crate::shelf::Failed;
 use crate::sink::Sink;
 
@@ -50,8 +51,8 @@ impl<'a> Sink for StdSink<'a> {
 
     fn write(&mut self, piece: &[u8]) -> Result<usize, Failed> {
         let written = match self.stream {
-            Stream::Out => self.rt.stdout().write_some(piece),
-            Stream::Err => self.rt.stderr().write_some(piece),
+            Stream::Out => write_again(&mut self.rt.stdout(), piece),
+            Stream::Err => write_again(&mut self.rt.stderr(), piece),
         };
         match written {
             Ok(count) if count > 0 => Ok(count),
