@@ -1,6 +1,7 @@
 //! A signal may interrupt a read or a write before it moved a byte. The call is then made again.
 
 ghost use Rattle.std.specs.Io.{ReadsAtMost, WritesAtMost};
+ghost use Rattle.std.specs.Io.KnownBytes.{ReadConsumes, WriteAppends};
 
 use std::io;
 use std::io::{ErrorKind, Read, Write};
@@ -9,7 +10,8 @@ use std::io::{ErrorKind, Read, Write};
 const TRIES: usize = 64;
 
 pub fn read_again<R: Read>(from: &mut R, buf: &mut [u8]) -> io::Result<usize>
-    ensures { ReadsAtMost result buf.new }
+    ensures bound { ReadsAtMost result buf.new }
+    ensures bytes { ReadConsumes (R.remaining from.old) (R.remaining from.new) result buf.new }
 {
     for _ in 1..TRIES {
         match from.read(buf) {
@@ -21,7 +23,8 @@ pub fn read_again<R: Read>(from: &mut R, buf: &mut [u8]) -> io::Result<usize>
 }
 
 pub fn write_again<W: Write>(to: &mut W, piece: &[u8]) -> io::Result<usize>
-    ensures { WritesAtMost result piece.now }
+    ensures bound { WritesAtMost result piece.now }
+    ensures bytes { WriteAppends (W.contents to.old) (W.contents to.new) result piece.now }
 {
     for _ in 1..TRIES {
         match to.write(piece) {
