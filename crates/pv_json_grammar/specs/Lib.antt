@@ -1,0 +1,4 @@
+pub mod Reading
+pub mod Strings
+pub mod Values
+pub mod SpelledStrings

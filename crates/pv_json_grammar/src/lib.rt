@@ -1,0 +1,6 @@
+//! JSON texts (RFC 8259): which bytes spell which tree, how they are read, and that the two agree.
+#![tactic(auto)]
+
+mod laws;
+
+pub use laws::{strings_are_read, strings_are_spelled};
