@@ -4,3 +4,4 @@ pub mod Utf8
 pub mod StringSound
 pub mod StringComplete
 pub mod Utf8Kept
+pub mod Several
