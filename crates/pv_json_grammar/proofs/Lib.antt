@@ -5,3 +5,4 @@ pub mod StringSound
 pub mod StringComplete
 pub mod Utf8Kept
 pub mod Several
+pub mod ValueSound
