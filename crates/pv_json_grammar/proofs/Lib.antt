@@ -6,3 +6,4 @@ pub mod StringComplete
 pub mod Utf8Kept
 pub mod Several
 pub mod ValueSound
+pub mod ValueComplete
