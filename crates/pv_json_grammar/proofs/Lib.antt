@@ -5,5 +5,7 @@ pub mod StringSound
 pub mod StringComplete
 pub mod Utf8Kept
 pub mod Several
+pub mod SeveralSound
+pub mod SeveralComplete
 pub mod ValueSound
 pub mod ValueComplete

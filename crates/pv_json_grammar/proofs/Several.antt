@@ -49,7 +49,7 @@ unfolding members several
 members_are inner zero all bs = refl
 members_are inner (suc k) all bs =
     ap (λ (f : List (List ℕ × Tree) → List ℕ → Reads Tree). member inner bs >>= λ m. after_member inner f (put all (m.0).0 (m.0).1) (skip m.1))
-        (fun_ext (λ all. fun_ext (λ bs. members_are inner k all bs)))
+    (fun_ext (λ all. fun_ext (λ bs. members_are inner k all bs)))
 
 pub object_is : (inner : List ℕ → Reads Tree) (bs : List ℕ) → object inner bs ≡ group 125 tree.Object put_member (member inner) (skip bs)
 unfolding object

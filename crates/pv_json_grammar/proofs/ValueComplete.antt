@@ -1,10 +1,10 @@
--- What is spelled is read: values and documents, from the same of numbers.
-use Rattle.std.proofs.Common.{◌≡◌, ℕ, zero, suc, ◌+◌, ◌<◌, ◌≤◌, Bool, true, false, cond, List, [], ◌∷◌, ◌++◌, length, take, drop, Ok, Err, refl, sym, ap, ◌∙◌, subst, inl, inr, append_assoc, length-append, arith}
+-- What is spelled is read: values and documents. So bytes spell one document at most.
+use Rattle.std.proofs.Common.{◌≡◌, ℕ, zero, suc, ◌<◌, ◌≤◌, Bool, true, false, List, [], ◌∷◌, ◌++◌, length, drop, Ok, Err, refl, sym, ap, ◌∙◌, subst, inl, inr, append_assoc, arith}
 use Rattle.std.proofs.Math.Seq.{take-append_seam, drop-append_seam}
-use Rattle.std.proofs.lemmas.Bool.{eq-eqb, eqb-true, leb-true, leb-false, lt-leb, and_parts, or_cases}
-use Rattle.std.specs.Prelude.{IsTrue, ◌⊎◌, ◌==◌, ◌||◌, nat_le, nat_lt}
+use Rattle.std.proofs.lemmas.Bool.{eq-eqb, eqb-true, leb-true, and_parts, or_cases}
+use Rattle.std.specs.Prelude.{IsTrue, ◌⊎◌, ◌==◌, ◌||◌, nat_le}
 use Rattle.pv_number.specs.Grammar.{AllDigits, IsNumber, Stops, goes_on}
-use Rattle.pv_number.specs.Scanning.{◌>>=◌, is_digit, number_len}
+use Rattle.pv_number.specs.Scanning.{is_digit}
 use Rattle.pv_tree.specs.declared.Tree.{Tree}
 use Rattle.pv_tree.specs.declared.Tree.TheVariants as tree
 use Rattle.pv_tree.specs.Merging.{merged}
@@ -12,118 +12,13 @@ use Rattle.pv_json_grammar.specs.Reading.{Reads, past, after, is_blank, skip, nu
 use Rattle.pv_json_grammar.specs.Strings.{string}
 use Rattle.pv_json_grammar.specs.Values.{array, member, object, value_by, value, document}
 use Rattle.pv_json_grammar.specs.SpelledStrings.{SpellsString, spelled}
-use Rattle.pv_json_grammar.specs.Spells.{IsBlank, SpellsScalar, spells_null, spells_true, spells_false, spells_number, spells_text, Padded, Listed, Enclosed, SpellsMember, SpellsValue, spells_scalar, spells_array, spells_object, Spells, SpellsDocument}
+use Rattle.pv_json_grammar.specs.Spells.{SpellsScalar, spells_null, spells_true, spells_false, spells_number, spells_text, Enclosed, SpellsMember, SpellsValue, spells_scalar, spells_array, spells_object, Spells, SpellsDocument}
 use Rattle.pv_json_grammar.proofs.Binds.{ok_same}
 use Rattle.pv_json_grammar.proofs.Utf8.{not_same}
 use Rattle.pv_json_grammar.proofs.Utf8Kept.{string_complete}
-use Rattle.pv_json_grammar.proofs.Several.{add_all, behind, several, group, push_item, put_member, array_is, object_is, all_items, all_members}
-
--- a number is scanned to its end where no more of it follows
-abbrev pub NumbersReached : Type 0
-NumbersReached = (text rest : List ℕ) → IsNumber text → Stops rest → number_len (text ++ rest) ≡ Ok (length text)
-
--- a value may end before these bytes
-abbrev pub ends_value : ℕ → Bool
-ends_value b = is_blank b || (b == 44 || (b == 93 || b == 125))
-
-abbrev pub Ends : List ℕ → Type 0
-Ends [] = Unit {0}
-Ends (b ∷ bs) = IsTrue (ends_value b)
-
--- a reader that reads what is spelled by S, behind white space
-abbrev pub IsComplete : {A : Type 0} → (List ℕ → Reads A) → (List ℕ → A → Type 0) → Type 0
-IsComplete {A = A} inner S = (lead text more : List ℕ) (x : A) → IsBlank lead → S text x → Ends more → inner (lead ++ (text ++ more)) ≡ Ok (x, more)
-
--- neither white space nor this bracket comes first
-abbrev pub Starts : ℕ → List ℕ → Type 0
-Starts close [] = ⊥
-Starts close (b ∷ bs) = (is_blank b ≡ false) × ((b == close) ≡ false)
-
-skip_blank : (ws rest : List ℕ) → IsBlank ws → skip (ws ++ rest) ≡ skip rest
-unfolding skip
-skip_blank [] rest b = refl
-skip_blank (w ∷ ws) rest b = ap (λ t. cond t (skip (ws ++ rest)) (w ∷ (ws ++ rest))) b.0 ∙ skip_blank ws rest b.1
-
-skip_none : (b : ℕ) (bs : List ℕ) → is_blank b ≡ false → skip (b ∷ bs) ≡ b ∷ bs
-unfolding skip
-skip_none b bs e = ap (λ t. cond t (skip bs) (b ∷ bs)) e
-
-skip_to : (ws rest : List ℕ) (c : ℕ) → IsBlank ws → is_blank c ≡ false → skip (ws ++ c ∷ rest) ≡ c ∷ rest
-skip_to ws rest c b e = skip_blank ws (c ∷ rest) b ∙ skip_none c rest e
-
-skip_all : (ws : List ℕ) → IsBlank ws → skip ws ≡ []
-unfolding skip
-skip_all [] b = refl
-skip_all (w ∷ ws) b = ap (λ t. cond t (skip ws) (w ∷ ws)) b.0 ∙ skip_all ws b.1
-
-skip_start : (close : ℕ) (ws text rest : List ℕ) → IsBlank ws → Starts close text → skip (ws ++ (text ++ rest)) ≡ text ++ rest
-skip_start close ws [] rest b s = absurd s
-skip_start close ws (c ∷ cs) rest b s = skip_to ws (cs ++ rest) c b s.0
-
-ends_blank : (ws rest : List ℕ) → IsBlank ws → Ends rest → Ends (ws ++ rest)
-ends_blank [] rest b e = e
-ends_blank (w ∷ ws) rest b e = ap (λ t. t || (w == 44 || (w == 93 || w == 125))) b.0
-
-all_blank : (ws : List ℕ) → IsBlank ws → Ends ws
-all_blank [] b = tt
-all_blank (w ∷ ws) b = ap (λ t. t || (w == 44 || (w == 93 || w == 125))) b.0
-
-module _ {A : Type 0} (close : ℕ) (finish : List A → Tree) (add : List A → A → List A) (inner : List ℕ → Reads A) (S : List ℕ → A → Type 0) (complete : IsComplete inner S) where
-  one_thing : (bs : List ℕ) (x : A) (c : ℕ) (rest : List ℕ) → Padded S bs x → is_blank c ≡ false → IsTrue (ends_value c)
-      → (more : List ℕ) × (inner (bs ++ c ∷ rest) ≡ Ok (x, more)) × (skip more ≡ c ∷ rest)
-  one_thing bs x c rest p e ends = (
-    p.trail ++ c ∷ rest,
-    ap inner (ap (λ z. z ++ c ∷ rest) p.whole ∙ append_assoc p.lead (p.text ++ p.trail) (c ∷ rest) ∙ ap (λ z. p.lead ++ z) (append_assoc p.text p.trail (c ∷ rest)))
-        ∙ complete p.lead p.text (p.trail ++ c ∷ rest) x p.blank_lead p.spells (ends_blank p.trail (c ∷ rest) p.blank_trail ends),
-    skip_to p.trail rest c p.blank_trail e,
-  )
-
-  several_complete : is_blank close ≡ false → IsTrue (ends_value close) → (close == 44) ≡ false
-      → (k : ℕ) (all : List A) (bs : List ℕ) (x : A) (xs : List A) (rest : List ℕ) → length xs < k → Listed S bs (x ∷ xs)
-      → several close finish add inner k all (bs ++ close ∷ rest) ≡ Ok (finish (add_all add all (x ∷ xs)), rest)
-  unfolding several
-  several_complete b e n zero all bs x xs rest l i = absurd (omega arith)
-  several_complete b e n (suc k) all bs x [] rest l p =
-      let o = one_thing bs x close rest p b e in
-      rw (o.1, o.2, n, eq-eqb close close refl) refl
-  several_complete b e n (suc k) all bs x (y ∷ ys) rest l (first, more, w, p, q) =
-      let o = one_thing first x 44 (more ++ close ∷ rest) p refl refl in
-      ap (λ z. several close finish add inner (suc k) all z) (ap (λ z. z ++ close ∷ rest) w ∙ append_assoc first (44 ∷ more) (close ∷ rest))
-      ∙ rw (o.1, o.2) (several_complete b e n k (add all x) more y ys rest (omega arith) q)
-
-  -- each thing but the last has its comma
-  listed_long : (bs : List ℕ) (x : A) (xs : List A) → Listed S bs (x ∷ xs) → length xs ≤ length bs
-  listed_long bs x [] p = omega arith
-  listed_long bs x (y ∷ ys) (first, more, w, p, q) = omega (arith, ap length w, length-append first (44 ∷ more), listed_long more y ys q)
-
-  -- what is listed, without the white space in front
-  abbrev Opened : List ℕ → A → List A → Type 0
-  Opened bs x xs = (lead : List ℕ) × (b : ℕ) × (tail : List ℕ) × (bs ≡ lead ++ b ∷ tail) × IsBlank lead × (is_blank b ≡ false) × ((b == close) ≡ false) × Listed S (b ∷ tail) (x ∷ xs)
-
-  opened_one : (bs lead text trail : List ℕ) (x : A) → bs ≡ lead ++ (text ++ trail) → IsBlank lead → S text x → IsBlank trail → Starts close text → Opened bs x []
-  opened_one bs lead [] trail x e b s d f = absurd f
-  opened_one bs lead (c ∷ cs) trail x e b s d f =
-      (lead, c, cs ++ trail, e, b, f.0, f.1, record { lead = []; text = c ∷ cs; trail = trail; whole = refl; blank_lead = tt; spells = s; blank_trail = d })
-
-  opened : ((text : List ℕ) (x : A) → S text x → Starts close text) → (bs : List ℕ) (x : A) (xs : List A) → Listed S bs (x ∷ xs) → Opened bs x xs
-  opened starts bs x [] p = opened_one bs p.lead p.text p.trail x p.whole p.blank_lead p.spells p.blank_trail (starts p.text x p.spells)
-  opened starts bs x (y ∷ ys) (first, more, w, p, q) =
-      let o = opened_one first p.lead p.text p.trail x p.whole p.blank_lead p.spells p.blank_trail (starts p.text x p.spells) in
-      (o.0, o.1, o.2 ++ 44 ∷ more, w ∙ ap (λ z. z ++ 44 ∷ more) o.3 ∙ append_assoc o.0 (o.1 ∷ o.2) (44 ∷ more), o.4, o.5, o.6, (o.1 ∷ o.2, more, refl, o.7, q))
-
-  group_complete : is_blank close ≡ false → IsTrue (ends_value close) → (close == 44) ≡ false → ((text : List ℕ) (x : A) → S text x → Starts close text)
-      → (inside : List ℕ) (xs : List A) (rest : List ℕ) → Enclosed S inside xs
-      → group close finish add inner (skip (inside ++ close ∷ rest)) ≡ Ok (finish (add_all add [] xs), rest)
-  group_complete b e n starts inside [] rest i = rw (skip_to inside rest close i b, eq-eqb close close refl) refl
-  group_complete b e n starts inside (x ∷ xs) rest i =
-      let o = opened starts inside x xs i in
-      let front : skip (inside ++ close ∷ rest) ≡ (o.1 ∷ o.2) ++ close ∷ rest =
-          ap (λ z. skip (z ++ close ∷ rest)) o.3 ∙ ap skip (append_assoc o.0 (o.1 ∷ o.2) (close ∷ rest)) ∙ skip_to o.0 (o.2 ++ close ∷ rest) o.1 o.4 o.5 in
-      let enough : length xs < length ((o.1 ∷ o.2) ++ close ∷ rest) =
-          omega (arith, listed_long (o.1 ∷ o.2) x xs o.7, length-append (o.1 ∷ o.2) (close ∷ rest)) in
-      ap (group close finish add inner) front
-      ∙ ap (λ t. cond t (Ok (finish [], o.2 ++ close ∷ rest)) (several close finish add inner (length ((o.1 ∷ o.2) ++ close ∷ rest)) [] ((o.1 ∷ o.2) ++ close ∷ rest))) o.6
-      ∙ several_complete b e n (length ((o.1 ∷ o.2) ++ close ∷ rest)) [] (o.1 ∷ o.2) x xs rest enough o.7
+use Rattle.pv_json_grammar.proofs.Several.{push_item, put_member, array_is, object_is, all_items, all_members}
+use Rattle.pv_number.proofs.Completeness.{number_complete as number_scanned}
+use Rattle.pv_json_grammar.proofs.SeveralComplete.{Ends, IsComplete, Starts, skip_to, skip_all, skip_start, all_blank, group_complete}
 
 -- the first byte of a number
 number_first : (text : List ℕ) → IsNumber text → (b : ℕ) × (bs : List ℕ) × (text ≡ b ∷ bs) × (45 ≤ b) × (b ≤ 57)
@@ -196,21 +91,21 @@ ends_stop : (more : List ℕ) → Ends more → Stops more
 ends_stop [] e = tt
 ends_stop (c ∷ cs) e =
     either (is_blank c) (c == 44 || (c == 93 || c == 125)) e
-        (λ b. either (c == 32 || c == 9 || c == 10) (c == 13) b
-            (λ b. either (c == 32 || c == 9) (c == 10) b (λ b. either (c == 32) (c == 9) b (stops_at c 32 refl) (stops_at c 9 refl)) (stops_at c 10 refl))
-            (stops_at c 13 refl))
-        (λ b. either (c == 44) (c == 93 || c == 125) b (stops_at c 44 refl) (λ b. either (c == 93) (c == 125) b (stops_at c 93 refl) (stops_at c 125 refl)))
+    (λ b. either (c == 32 || c == 9 || c == 10) (c == 13) b
+    (λ b. either (c == 32 || c == 9) (c == 10) b (λ b. either (c == 32) (c == 9) b (stops_at c 32 refl) (stops_at c 9 refl)) (stops_at c 10 refl))
+    (stops_at c 13 refl))
+    (λ b. either (c == 44) (c == 93 || c == 125) b (stops_at c 44 refl) (λ b. either (c == 93) (c == 125) b (stops_at c 93 refl) (stops_at c 125 refl)))
 
-number_complete : NumbersReached → (text more : List ℕ) → IsNumber text → Ends more → number (text ++ more) ≡ Ok (text, more)
+number_complete : (text more : List ℕ) → IsNumber text → Ends more → number (text ++ more) ≡ Ok (text, more)
 unfolding number
-number_complete numbers text more n e =
-    rw (numbers text more n (ends_stop more e), take-append_seam text more, drop-append_seam text more) refl
+number_complete text more n e =
+    rw (number_scanned text more n (ends_stop more e), take-append_seam text more, drop-append_seam text more) refl
 
-module _ (numbers : NumbersReached) (arrays objects : List ℕ → Reads Tree) where
+module _ (arrays objects : List ℕ → Reads Tree) where
   number_read : (text more : List ℕ) → IsNumber text → Ends more → value_by arrays objects (text ++ more) ≡ Ok (tree.Num text, more)
   number_read text more n e =
       let f = number_first text n in
-      let read : number (f.0 ∷ (f.1 ++ more)) ≡ Ok (text, more) = ap (λ z. number (z ++ more)) (sym f.2) ∙ number_complete numbers text more n e in
+      let read : number (f.0 ∷ (f.1 ++ more)) ≡ Ok (text, more) = ap (λ z. number (z ++ more)) (sym f.2) ∙ number_complete text more n e in
       ap (λ z. value_by arrays objects (z ++ more)) f.2 ∙ by f.0 (f.1 ++ more) f.3 f.4 read
     where
       by : (b : ℕ) (bs : List ℕ) → 45 ≤ b → b ≤ 57 → number (b ∷ bs) ≡ Ok (text, more) → value_by arrays objects (b ∷ bs) ≡ Ok (tree.Num text, more)
@@ -247,29 +142,29 @@ object_complete inner S complete inside members more i =
     ∙ group_complete 125 tree.Object put_member (member inner) (SpellsMember S) (member_complete inner S complete) refl refl refl (member_starts S) inside members more i
     ∙ ap (λ z. Ok (tree.Object z, more)) (all_members members)
 
-nesting_complete : NumbersReached → (inner : List ℕ → Reads Tree) (S : List ℕ → Tree → Type 0) → IsComplete inner S → ((text : List ℕ) (t : Tree) → S text t → Starts 93 text)
+nesting_complete : (inner : List ℕ → Reads Tree) (S : List ℕ → Tree → Type 0) → IsComplete inner S → ((text : List ℕ) (t : Tree) → S text t → Starts 93 text)
     → (text more : List ℕ) (t : Tree) → SpellsValue S text t → Ends more
     → value_by (λ all. array inner (drop 1 all)) (λ all. object inner (drop 1 all)) (text ++ more) ≡ Ok (t, more)
-nesting_complete numbers inner S complete starts text more t (spells_scalar s) ends =
-    scalar_complete numbers (λ all. array inner (drop 1 all)) (λ all. object inner (drop 1 all)) text more t s ends
-nesting_complete numbers inner S complete starts text more t (spells_array inside items e i f) ends =
+nesting_complete inner S complete starts text more t (spells_scalar s) ends =
+    scalar_complete (λ all. array inner (drop 1 all)) (λ all. object inner (drop 1 all)) text more t s ends
+nesting_complete inner S complete starts text more t (spells_array inside items e i f) ends =
     rw (e, f) (array_complete inner S complete starts inside items more i)
-nesting_complete numbers inner S complete starts text more t (spells_object inside members e i f) ends =
+nesting_complete inner S complete starts text more t (spells_object inside members e i f) ends =
     rw (e, f) (object_complete inner S complete inside members more i)
 
-pub value_complete : NumbersReached → (n : ℕ) → IsComplete (value n) (Spells n)
+pub value_complete : (n : ℕ) → IsComplete (value n) (Spells n)
 unfolding value Spells
-value_complete numbers zero lead text more t b s ends =
+value_complete zero lead text more t b s ends =
     ap (value_by (λ all. Err (length all)) (λ all. Err (length all))) (skip_start 93 lead text more b (scalar_starts text t s))
-    ∙ scalar_complete numbers (λ all. Err (length all)) (λ all. Err (length all)) text more t s ends
-value_complete numbers (suc n) lead text more t b s ends =
+    ∙ scalar_complete (λ all. Err (length all)) (λ all. Err (length all)) text more t s ends
+value_complete (suc n) lead text more t b s ends =
     ap (value_by (λ all. array (value n) (drop 1 all)) (λ all. object (value n) (drop 1 all))) (skip_start 93 lead text more b (nesting_starts (Spells n) text t s))
-    ∙ nesting_complete numbers (value n) (Spells n) (value_complete numbers n) (value_starts n) text more t s ends
+    ∙ nesting_complete (value n) (Spells n) (value_complete n) (value_starts n) text more t s ends
 
-pub document_complete : NumbersReached → (n : ℕ) (bs : List ℕ) (t : Tree) → SpellsDocument n bs t → document n bs ≡ Ok t
+pub document_complete : (n : ℕ) (bs : List ℕ) (t : Tree) → SpellsDocument n bs t → document n bs ≡ Ok t
 unfolding document
-document_complete numbers n bs t d =
-    rw (d.whole, value_complete numbers n d.lead d.text d.trail t d.blank_lead d.spells (all_blank d.trail d.blank_trail), skip_all d.trail d.blank_trail) refl
+document_complete n bs t d =
+    rw (d.whole, value_complete n d.lead d.text d.trail t d.blank_lead d.spells (all_blank d.trail d.blank_trail), skip_all d.trail d.blank_trail) refl
 
-pub one_tree : NumbersReached → (n : ℕ) (bs : List ℕ) (t u : Tree) → SpellsDocument n bs t → SpellsDocument n bs u → t ≡ u
-one_tree numbers n bs t u d e = ok_same t u (sym (document_complete numbers n bs t d) ∙ document_complete numbers n bs u e)
+pub same_tree : (n : ℕ) (bs : List ℕ) (t u : Tree) → SpellsDocument n bs t → SpellsDocument n bs u → t ≡ u
+same_tree n bs t u d e = ok_same t u (sym (document_complete n bs t d) ∙ document_complete n bs u e)

@@ -1,128 +1,20 @@
--- What is read is spelled: values and documents, from the same of numbers.
-use Rattle.std.proofs.Common.{◌≡◌, ℕ, zero, suc, ◌+◌, ◌≤◌, Bool, true, false, cond, List, [], ◌∷◌, ◌++◌, length, take, drop, codes, Ok, Err, refl, sym, ap, ◌∙◌, subst, inl, inr, append_assoc, append-nil, arith}
+-- What is read is spelled: values and documents.
+use Rattle.std.proofs.Common.{◌≡◌, ℕ, zero, suc, ◌+◌, true, false, cond, List, [], ◌∷◌, ◌++◌, length, take, drop, codes, Ok, Err, refl, sym, ap, ◌∙◌, subst, inl, inr, append_assoc, append-nil, arith}
 use Rattle.std.proofs.lemmas.Bool.{eqb-true}
 use Rattle.std.proofs.lemmas.List.{take-append-drop}
-use Rattle.std.specs.Prelude.{Result, ◌⊎◌, ◌==◌, if◌then◌else◌}
-use Rattle.pv_number.specs.Grammar.{IsNumber}
-use Rattle.pv_number.specs.Scanning.{◌>>=◌, begins, number_len}
+use Rattle.std.specs.Prelude.{◌⊎◌, ◌==◌}
+use Rattle.pv_number.specs.Scanning.{◌>>=◌, number_len}
 use Rattle.pv_tree.specs.declared.Tree.{Tree}
 use Rattle.pv_tree.specs.declared.Tree.TheVariants as tree
-use Rattle.pv_json_grammar.specs.Reading.{Reads, past, after, is_blank, skip, number}
+use Rattle.pv_json_grammar.specs.Reading.{Reads, past, after, skip, number}
 use Rattle.pv_json_grammar.specs.Strings.{string}
 use Rattle.pv_json_grammar.specs.Values.{array, member, object, word, value_by, value, document}
-use Rattle.pv_json_grammar.specs.SpelledStrings.{SpellsString}
-use Rattle.pv_json_grammar.specs.Spells.{IsBlank, SpellsScalar, spells_null, spells_true, spells_false, spells_number, spells_text, Padded, Listed, Enclosed, SpellsMember, SpellsValue, spells_scalar, spells_array, spells_object, Spells, SpellsDocument}
+use Rattle.pv_json_grammar.specs.Spells.{IsBlank, SpellsScalar, spells_null, spells_true, spells_false, spells_number, spells_text, SpellsMember, SpellsValue, spells_scalar, spells_array, spells_object, Spells, SpellsDocument}
 use Rattle.pv_json_grammar.proofs.Binds.{bind_ok, ok_same, absurd_ok, chosen}
 use Rattle.pv_json_grammar.proofs.StringSound.{string_sound}
-use Rattle.pv_json_grammar.proofs.Several.{add_all, behind, several, group, push_item, put_member, array_is, object_is, all_items, all_members}
-
--- what is scanned as a number is one
-abbrev pub NumbersScanned : Type 0
-NumbersScanned = (bs : List ℕ) (n : ℕ) → number_len bs ≡ Ok n → IsNumber (take n bs) × (n ≤ length bs)
-
--- a reader whose answers are spelled by S, behind white space
-abbrev pub IsSound : {A : Type 0} → (List ℕ → Reads A) → (List ℕ → A → Type 0) → Type 0
-IsSound {A = A} inner S = (bs : List ℕ) (x : A × List ℕ) → inner bs ≡ Ok x → (lead : List ℕ) × (text : List ℕ) × (bs ≡ lead ++ (text ++ x.1)) × IsBlank lead × S text x.0
-
-pub blank_front : (bs : List ℕ) → (lead : List ℕ) × IsBlank lead × (bs ≡ lead ++ skip bs)
-unfolding skip
-blank_front [] = ([], tt, refl)
-blank_front (b ∷ bs) = front_by b bs (is_blank b) refl (blank_front bs)
-  where
-    front_by : (b : ℕ) (bs : List ℕ) (t : Bool) → is_blank b ≡ t → ((lead : List ℕ) × IsBlank lead × (bs ≡ lead ++ skip bs))
-        → (lead : List ℕ) × IsBlank lead × (b ∷ bs ≡ lead ++ cond t (skip bs) (b ∷ bs))
-    front_by b bs true e more = (b ∷ more.0, (e, more.1), ap (λ l. b ∷ l) more.2)
-    front_by b bs false e more = ([], tt, refl)
-
-blank_append : (xs ys : List ℕ) → IsBlank xs → IsBlank ys → IsBlank (xs ++ ys)
-blank_append [] ys p q = q
-blank_append (x ∷ xs) ys p q = (p.0, blank_append xs ys p.1 q)
-
--- one thing with white space round it, and what follows
-padded : {A : Type 0} (S : List ℕ → A → Type 0) (bs lead text more : List ℕ) (x : A) → bs ≡ lead ++ (text ++ more) → IsBlank lead → S text x
-    → (first : List ℕ) × (bs ≡ first ++ skip more) × Padded S first x
-padded S bs lead text more x e b s =
-    let f = blank_front more in (
-      lead ++ (text ++ f.0),
-      e ∙ ap (λ m. lead ++ (text ++ m)) f.2 ∙ ap (λ m. lead ++ m) (sym (append_assoc text f.0 (skip more))) ∙ sym (append_assoc lead (text ++ f.0) (skip more)),
-      record { lead = lead; text = text; trail = f.0; whole = refl; blank_lead = b; spells = s; blank_trail = f.1 },
-    )
-
-padded_lead : {A : Type 0} (S : List ℕ → A → Type 0) (lead bs : List ℕ) (x : A) → IsBlank lead → Padded S bs x → Padded S (lead ++ bs) x
-padded_lead S lead bs x b p = record {
-  lead = lead ++ p.lead;
-  text = p.text;
-  trail = p.trail;
-  whole = ap (λ z. lead ++ z) p.whole ∙ sym (append_assoc lead p.lead (p.text ++ p.trail));
-  blank_lead = blank_append lead p.lead b p.blank_lead;
-  spells = p.spells;
-  blank_trail = p.blank_trail;
-}
-
-listed_lead : {A : Type 0} (S : List ℕ → A → Type 0) (lead bs : List ℕ) (x : A) (xs : List A) → IsBlank lead → Listed S bs (x ∷ xs) → Listed S (lead ++ bs) (x ∷ xs)
-listed_lead S lead bs x [] b p = padded_lead S lead bs x b p
-listed_lead S lead bs x (y ∷ ys) b (first, more, e, p, q) =
-    (lead ++ first, more, ap (λ z. lead ++ z) e ∙ sym (append_assoc lead first (44 ∷ more)), padded_lead S lead first x b p, q)
-
-module _ {A : Type 0} (close : ℕ) (finish : List A → Tree) (add : List A → A → List A) (inner : List ℕ → Reads A) (S : List ℕ → A → Type 0) where
-  -- the things from here on, and what follows the closing bracket
-  abbrev SeveralRead : List A → List ℕ → Tree × List ℕ → Type 0
-  SeveralRead all bs y = (x : A) × (xs : List A) × (inside : List ℕ) × (y.0 ≡ finish (add_all add all (x ∷ xs))) × (bs ≡ inside ++ close ∷ y.1) × Listed S inside (x ∷ xs)
-
-  by_next : (k : ℕ) (all : List A) (bs : List ℕ) (y : Tree × List ℕ) (x : A)
-      → ((cs : List ℕ) → several close finish add inner k (add all x) cs ≡ Ok y → SeveralRead (add all x) cs y)
-      → (after first : List ℕ) → bs ≡ first ++ after → Padded S first x
-      → behind close finish add inner (several close finish add inner k) (add all x) after ≡ Ok y → SeveralRead all bs y
-  by_next k all bs y x more [] first b p e = absurd_ok _ _ e
-  by_next k all bs y x more (c ∷ cs) first b p e = elim (chosen (c == 44) (several close finish add inner k (add all x) cs) _ (Ok y) e) [
-    | inl h ↦ (let r = more cs h.1 in (
-        x,
-        r.0 ∷ r.1,
-        first ++ 44 ∷ r.2,
-        r.3,
-        b ∙ ap (λ d. first ++ d ∷ cs) (eqb-true c 44 h.0) ∙ ap (λ z. first ++ 44 ∷ z) r.4 ∙ sym (append_assoc first (44 ∷ r.2) (close ∷ y.1)),
-        (first, r.2, refl, p, r.5),
-      ))
-    | inr h ↦ elim (chosen (c == close) (Ok (finish (add all x), cs)) (Err (length cs + 1)) (Ok y) h.1) [
-      | inl g ↦ (let same = ok_same _ _ g.1 in
-          (x, [], first, ap (λ (z : Tree × List ℕ). z.0) (sym same), b ∙ ap (λ d. first ++ d ∷ cs) (eqb-true c close g.0) ∙ ap (λ (z : Tree × List ℕ). first ++ close ∷ z.1) same, p))
-      | inr g ↦ absurd_ok _ _ g.1
-    ]
-  ]
-
-  several_sound : IsSound inner S → (k : ℕ) (all : List A) (bs : List ℕ) (y : Tree × List ℕ) → several close finish add inner k all bs ≡ Ok y → SeveralRead all bs y
-  unfolding several
-  several_sound sound zero all bs y e = absurd_ok _ _ e
-  several_sound sound (suc k) all bs y e =
-      let r = bind_ok (inner bs) (λ x. behind close finish add inner (several close finish add inner k) (add all x.0) (skip x.1)) y e in
-      let s = sound bs r.0 r.1 in
-      let p = padded S bs s.0 s.1 (r.0).1 (r.0).0 s.2 s.3 s.4 in
-      by_next k all bs y (r.0).0 (λ cs. several_sound sound k (add all (r.0).0) cs y) (skip (r.0).1) p.0 p.1 p.2 r.2
-
-  -- what stands behind an opening bracket
-  abbrev GroupRead : List ℕ → Tree × List ℕ → Type 0
-  GroupRead bs y = (inside : List ℕ) × (xs : List A) × (bs ≡ inside ++ close ∷ y.1) × Enclosed S inside xs × (y.0 ≡ finish (add_all add [] xs))
-
-  nothing_inside : (bs lead r : List ℕ) (y : Tree × List ℕ) → bs ≡ lead ++ r → IsBlank lead → begins close r ≡ true
-      → (let a : Reads Tree = Ok (finish [], drop 1 r) in a) ≡ Ok y → GroupRead bs y
-  nothing_inside bs lead [] y e b g o = cc
-  nothing_inside bs lead (c ∷ cs) y e b g o =
-      let same = ok_same _ _ o in (
-        lead,
-        [],
-        e ∙ ap (λ d. lead ++ d ∷ cs) (eqb-true c close g) ∙ ap (λ (z : Tree × List ℕ). lead ++ close ∷ z.1) same,
-        b,
-        ap (λ (z : Tree × List ℕ). z.0) (sym same),
-      )
-
-  group_sound : IsSound inner S → (bs : List ℕ) (y : Tree × List ℕ) → group close finish add inner (skip bs) ≡ Ok y → GroupRead bs y
-  group_sound sound bs y e =
-      let f = blank_front bs in
-      elim (chosen (begins close (skip bs)) (Ok (finish [], drop 1 (skip bs))) (several close finish add inner (length (skip bs)) [] (skip bs)) (Ok y) e) [
-        | inl h ↦ nothing_inside bs f.0 (skip bs) y f.2 f.1 h.0 h.1
-        | inr h ↦ (let r = several_sound sound (length (skip bs)) [] (skip bs) y h.1 in
-            (f.0 ++ r.2, r.0 ∷ r.1, f.2 ∙ ap (λ z. f.0 ++ z) r.4 ∙ sym (append_assoc f.0 r.2 (close ∷ y.1)), listed_lead S f.0 r.2 r.0 r.1 f.1 r.5, r.3))
-      ]
+use Rattle.pv_json_grammar.proofs.Several.{push_item, put_member, array_is, object_is, all_items, all_members}
+use Rattle.pv_number.proofs.Soundness.{number_sound as number_scanned}
+use Rattle.pv_json_grammar.proofs.SeveralSound.{IsSound, blank_front, group_sound}
 
 past_sound : (w : ℕ) (bs rest : List ℕ) → past w bs ≡ Ok rest → bs ≡ w ∷ rest
 unfolding past
@@ -161,9 +53,9 @@ member_sound inner S sound bs y e =
     let gap = blank_front (name.0).1 in
     let inside = sound colon.0 v.0 v.1 in
     let parts = member_parts bs lead.0 text.0 (name.0).1 gap.0 colon.0 inside.0 inside.1 (v.0).1
-        (lead.2 ∙ ap (λ z. lead.0 ++ z) (quote ∙ text.2))
-        (gap.2 ∙ ap (λ z. gap.0 ++ z) (past_sound 58 (skip (name.0).1) colon.0 colon.1))
-        inside.2 in
+    (lead.2 ∙ ap (λ z. lead.0 ++ z) (quote ∙ text.2))
+    (gap.2 ∙ ap (λ z. gap.0 ++ z) (past_sound 58 (skip (name.0).1) colon.0 colon.1))
+    inside.2 in
     subst (λ (z : (List ℕ × Tree) × List ℕ). (lead : List ℕ) × (text : List ℕ) × (bs ≡ lead ++ (text ++ z.1)) × IsBlank lead × SpellsMember S text z.0) same (
       lead.0,
       text.0 ++ (gap.0 ++ 58 ∷ (inside.0 ++ inside.1)),
@@ -192,13 +84,13 @@ word_sound w t bs y e =
 abbrev ScalarRead : List ℕ → Tree × List ℕ → Type 0
 ScalarRead bs y = (text : List ℕ) × (bs ≡ text ++ y.1) × SpellsScalar text y.0
 
-number_sound : NumbersScanned → (bs : List ℕ) (y : Tree × List ℕ) → (number bs >>= λ x. Ok (tree.Num x.0, x.1)) ≡ Ok y → ScalarRead bs y
+number_sound : (bs : List ℕ) (y : Tree × List ℕ) → (number bs >>= λ x. Ok (tree.Num x.0, x.1)) ≡ Ok y → ScalarRead bs y
 unfolding number
-number_sound numbers bs y e =
+number_sound bs y e =
     let r = bind_ok (number bs) (λ x. Ok (tree.Num x.0, x.1)) y e in
     let n = bind_ok (number_len bs) (λ n. Ok (take n bs, drop n bs)) r.0 r.1 in
     let same = ok_same _ _ (ap (λ (z : List ℕ × List ℕ). let a : Reads Tree = Ok (tree.Num z.0, z.1) in a) (ok_same _ _ n.2) ∙ r.2) in
-    subst (ScalarRead bs) same (take n.0 bs, sym (take-append-drop n.0 bs), spells_number (numbers bs n.0 n.1).0 refl)
+    subst (ScalarRead bs) same (take n.0 bs, sym (take-append-drop n.0 bs), spells_number (number_scanned bs n.0 n.1).0 refl)
 
 string_read : (bs : List ℕ) (y : Tree × List ℕ) → (string bs >>= λ x. Ok (tree.Str x.0, x.1)) ≡ Ok y → ScalarRead (34 ∷ bs) y
 string_read bs y e =
@@ -207,9 +99,9 @@ string_read bs y e =
     subst (ScalarRead (34 ∷ bs)) (ok_same _ _ r.2) (s.0, s.2, spells_text (r.0).0 s.1 refl)
 
 -- a value, of which arrays and objects are left to their readers
-by_first : NumbersScanned → (arrays objects : List ℕ → Reads Tree) (b : ℕ) (bs : List ℕ) (y : Tree × List ℕ) → value_by arrays objects (b ∷ bs) ≡ Ok y
+by_first : (arrays objects : List ℕ → Reads Tree) (b : ℕ) (bs : List ℕ) (y : Tree × List ℕ) → value_by arrays objects (b ∷ bs) ≡ Ok y
     → ScalarRead (b ∷ bs) y ⊎ (((b ≡ 91) × (arrays (b ∷ bs) ≡ Ok y)) ⊎ ((b ≡ 123) × (objects (b ∷ bs) ≡ Ok y)))
-by_first numbers arrays objects b bs y e = elim (chosen (b == 110) _ _ (Ok y) e) [
+by_first arrays objects b bs y e = elim (chosen (b == 110) _ _ (Ok y) e) [
   | inl h ↦ (let r = word_sound (codes "null") tree.Null (b ∷ bs) y h.1 in inl (codes "null", r.0, spells_null refl r.1))
   | inr h ↦ elim (chosen (b == 116) _ _ (Ok y) h.1) [
     | inl h ↦ (let r = word_sound (codes "true") (tree.Bool true) (b ∷ bs) y h.1 in inl (codes "true", r.0, spells_true refl r.1))
@@ -221,7 +113,7 @@ by_first numbers arrays objects b bs y e = elim (chosen (b == 110) _ _ (Ok y) e)
           | inl h ↦ inr (inl (eqb-true b 91 h.0, h.1))
           | inr h ↦ elim (chosen (b == 123) _ _ (Ok y) h.1) [
             | inl h ↦ inr (inr (eqb-true b 123 h.0, h.1))
-            | inr h ↦ inl (number_sound numbers (b ∷ bs) y h.1)
+            | inr h ↦ inl (number_sound (b ∷ bs) y h.1)
           ]
         ]
       ]
@@ -251,18 +143,18 @@ object_sound inner S sound bs y e =
       spells_object g.0 g.1 refl g.3 (g.4 ∙ ap tree.Object (all_members g.1)),
     )
 
-scalar_sound : NumbersScanned → (r lead bs : List ℕ) (y : Tree × List ℕ) → IsBlank lead → bs ≡ lead ++ r
+scalar_sound : (r lead bs : List ℕ) (y : Tree × List ℕ) → IsBlank lead → bs ≡ lead ++ r
     → value_by (λ all. Err (length all)) (λ all. Err (length all)) r ≡ Ok y → ValueRead SpellsScalar bs y
-scalar_sound numbers [] lead bs y b w e = absurd_ok _ _ e
-scalar_sound numbers (c ∷ cs) lead bs y b w e = elim (by_first numbers (λ all. Err (length all)) (λ all. Err (length all)) c cs y e) [
+scalar_sound [] lead bs y b w e = absurd_ok _ _ e
+scalar_sound (c ∷ cs) lead bs y b w e = elim (by_first (λ all. Err (length all)) (λ all. Err (length all)) c cs y e) [
   | inl h ↦ (lead, h.0, w ∙ ap (λ z. lead ++ z) h.1, b, h.2)
   | inr h ↦ elim h [ inl g ↦ absurd_ok _ _ g.1 | inr g ↦ absurd_ok _ _ g.1 ]
 ]
 
-nesting_sound : NumbersScanned → (inner : List ℕ → Reads Tree) (S : List ℕ → Tree → Type 0) → IsSound inner S → (r lead bs : List ℕ) (y : Tree × List ℕ) → IsBlank lead
+nesting_sound : (inner : List ℕ → Reads Tree) (S : List ℕ → Tree → Type 0) → IsSound inner S → (r lead bs : List ℕ) (y : Tree × List ℕ) → IsBlank lead
     → bs ≡ lead ++ r → value_by (λ all. array inner (drop 1 all)) (λ all. object inner (drop 1 all)) r ≡ Ok y → ValueRead (SpellsValue S) bs y
-nesting_sound numbers inner S sound [] lead bs y b w e = absurd_ok _ _ e
-nesting_sound numbers inner S sound (c ∷ cs) lead bs y b w e = elim (by_first numbers (λ all. array inner (drop 1 all)) (λ all. object inner (drop 1 all)) c cs y e) [
+nesting_sound inner S sound [] lead bs y b w e = absurd_ok _ _ e
+nesting_sound inner S sound (c ∷ cs) lead bs y b w e = elim (by_first (λ all. array inner (drop 1 all)) (λ all. object inner (drop 1 all)) c cs y e) [
   | inl h ↦ (lead, h.0, w ∙ ap (λ z. lead ++ z) h.1, b, spells_scalar h.2)
   | inr h ↦ elim h [
     | inl g ↦ (let a = array_sound inner S sound cs y g.1 in (lead, a.0, w ∙ ap (λ d. lead ++ d ∷ cs) g.0 ∙ ap (λ z. lead ++ z) a.1, b, a.2))
@@ -270,11 +162,11 @@ nesting_sound numbers inner S sound (c ∷ cs) lead bs y b w e = elim (by_first 
   ]
 ]
 
-pub value_sound : NumbersScanned → (n : ℕ) → IsSound (value n) (Spells n)
+pub value_sound : (n : ℕ) → IsSound (value n) (Spells n)
 unfolding value Spells
-value_sound numbers zero bs y e = let f = blank_front bs in scalar_sound numbers (skip bs) f.0 bs y f.1 f.2 e
-value_sound numbers (suc n) bs y e =
-    let f = blank_front bs in nesting_sound numbers (value n) (Spells n) (value_sound numbers n) (skip bs) f.0 bs y f.1 f.2 e
+value_sound zero bs y e = let f = blank_front bs in scalar_sound (skip bs) f.0 bs y f.1 f.2 e
+value_sound (suc n) bs y e =
+    let f = blank_front bs in nesting_sound (value n) (Spells n) (value_sound n) (skip bs) f.0 bs y f.1 f.2 e
 
 none_left : (xs : List ℕ) → (length xs == 0) ≡ true → xs ≡ []
 none_left [] e = refl
@@ -283,11 +175,11 @@ none_left (x ∷ xs) e = absurd (apart (length xs) (eqb-true (suc (length xs)) 0
     apart : (n : ℕ) → suc n ≡ 0 → ⊥
     apart n e = omega arith
 
-pub document_sound : NumbersScanned → (n : ℕ) (bs : List ℕ) (t : Tree) → document n bs ≡ Ok t → SpellsDocument n bs t
+pub document_sound : (n : ℕ) (bs : List ℕ) (t : Tree) → document n bs ≡ Ok t → SpellsDocument n bs t
 unfolding document
-document_sound numbers n bs t e =
+document_sound n bs t e =
     let r = bind_ok (value n bs) (λ x. cond (length (skip x.1) == 0) (Ok x.0) (Err (length (skip x.1)))) t e in
-    let s = value_sound numbers n bs r.0 r.1 in
+    let s = value_sound n bs r.0 r.1 in
     let f = blank_front (r.0).1 in
     elim (chosen (length (skip (r.0).1) == 0) (Ok (r.0).0) (Err (length (skip (r.0).1))) (Ok t) r.2) [
       | inl h ↦ record {

@@ -1,5 +1,5 @@
 -- The grammar of JSON documents (RFC 8259, in UTF-8), apart from the reader: which bytes spell which tree.
-use Rattle.std.specs.Prelude.{◌≡◌, ℕ, zero, suc, Bool, true, false, IsTrue, List, [], ◌∷◌, ◌++◌, codes}
+use Rattle.std.specs.Prelude.{◌≡◌, ℕ, zero, suc, true, false, IsTrue, List, [], ◌∷◌, ◌++◌, codes}
 use Rattle.pv_number.specs.Grammar.{IsNumber}
 use Rattle.pv_tree.specs.declared.Tree.{Tree}
 use Rattle.pv_tree.specs.declared.Tree.TheVariants as tree
