@@ -4,3 +4,8 @@ pub mod Utf8
 pub mod StringSound
 pub mod StringComplete
 pub mod Utf8Kept
+pub mod Several
+pub mod SeveralSound
+pub mod SeveralComplete
+pub mod ValueSound
+pub mod ValueComplete

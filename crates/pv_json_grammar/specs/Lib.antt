@@ -2,3 +2,4 @@ pub mod Reading
 pub mod Strings
 pub mod Values
 pub mod SpelledStrings
+pub mod Spells

@@ -3,4 +3,6 @@
 
 mod laws;
 
-pub use laws::{strings_are_read, strings_are_spelled};
+pub use laws::{
+    documents_are_read, documents_are_spelled, one_tree, strings_are_read, strings_are_spelled,
+};
