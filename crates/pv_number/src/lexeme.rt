@@ -1,4 +1,4 @@
-use crate::scanning::number_len;
+use crate::scanning::is_number;
 use pv_text::Memory;
 use std::alloc::Global;
 use std::marker::Model;
@@ -34,11 +34,13 @@ impl Model for Lexeme {
 
 impl Lexeme {
     ghost use Rattle.std.specs.Prelude.{◌≡◌, false, IfOk, OnOk, IsErrOf, IsTrue, ◌↔◌};
-    ghost use Rattle.pv_number.specs.Scanning.{is_number};
+    ghost use Rattle.pv_number.specs.Scanning as spec;
+    ghost use Rattle.pv_number.specs.Grammar.{IsNumber};
 
     /// The lexeme of these bytes, which are a number.
+    #[tactic(auto, using(crate::proofs::Completeness::is_number_complete))]
     pub fn from_number(alloc: Global, b: &[u8]) -> Result<Lexeme, Memory>
-        requires { IsTrue (is_number b.now) }
+        requires { IsNumber b.now }
         ensures { IfOk result (λ l. l ≡ b.now) }
     {
         Ok(Lexeme {
@@ -46,21 +48,25 @@ impl Lexeme {
         })
     }
 
-    #[tactic(auto, unfolding(crate::specs::Scanning::is_number))]
+    #[tactic(auto, using(crate::proofs::Soundness::is_number_sound, crate::proofs::Completeness::is_number_complete))]
     pub fn from_slice(alloc: Global, b: &[u8]) -> Result<Lexeme, LexemeFault>
         ensures value { IfOk result (λ l. l ≡ b.now) }
-        ensures number { OnOk result (IsTrue (is_number b.now)) }
-        ensures refused { IsErrOf result LexemeFault.NotNumber ↔ (is_number b.now ≡ false) }
+        ensures number { OnOk result (IsNumber b.now) }
+        ensures scanned { OnOk result (IsTrue (spec.is_number b.now)) }
+        ensures refused { IsErrOf result LexemeFault.NotNumber ↔ ¬ IsNumber b.now }
+        ensures unscanned { IsErrOf result LexemeFault.NotNumber ↔ (spec.is_number b.now ≡ false) }
     {
-        if number_len(b) != Ok(b.len()) {
+        if !is_number(b) {
             return Err(LexemeFault::NotNumber);
         }
         Lexeme::from_number(alloc, b).map_err(|_| LexemeFault::Memory)
     }
 
+    #[tactic(auto, using(crate::proofs::Soundness::is_number_sound))]
     pub fn as_slice(&self) -> &[u8]
         ensures value { result.now ≡ self.now }
-        ensures number { IsTrue (is_number result.now) }
+        ensures number { IsNumber result.now }
+        ensures scanned { IsTrue (spec.is_number result.now) }
     {
         self.bytes.as_slice()
     }

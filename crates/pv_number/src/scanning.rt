@@ -1,7 +1,8 @@
 //! How far a number reaches (RFC 8259, section 6). An `Err` holds how many bytes are left where it breaks off.
 
-ghost use Rattle.std.specs.Prelude.{◌≡◌, ◌≤◌, length, IfOk};
+ghost use Rattle.std.specs.Prelude.{◌≡◌, ◌≤◌, length, take, IfOk};
 ghost use Rattle.pv_number.specs.Scanning as spec;
+ghost use Rattle.pv_number.specs.Grammar.{IsNumber};
 
 #[tactic(auto, unfolding(crate::specs::Scanning::digits))]
 fn digits(s: &[u8]) -> usize
@@ -99,10 +100,19 @@ fn exponent_len(s: &[u8]) -> Result<usize, usize>
 pub fn number_len(s: &[u8]) -> Result<usize, usize>
     ensures value { result ≡ spec.number_len s.now }
     ensures within { IfOk result (λ n. n ≤ length s.now) }
+    ensures number { IfOk result (λ n. IsNumber (take n s.now)) }
 {
     let minus = minus_len(s);
     let whole = whole_len(&s[minus..])?;
     let fraction = fraction_len(&s[minus + whole..])?;
     let exponent = exponent_len(&s[minus + whole + fraction..])?;
     Ok(minus + whole + fraction + exponent)
+}
+
+/// Whether the bytes are one number and nothing else.
+#[tactic(auto, unfolding(crate::specs::Scanning::is_number))]
+pub(crate) fn is_number(s: &[u8]) -> bool
+    ensures { result ≡ spec.is_number s.now }
+{
+    number_len(s) == Ok(s.len())
 }
