@@ -5,6 +5,8 @@ mod fault;
 mod reading;
 mod strings;
 mod symbols;
+#[cfg(test)]
+mod tests;
 mod values;
 
 pub use fault::ReadFault;
