@@ -1,0 +1,5 @@
+pub mod Reading
+pub mod Strings
+pub mod Values
+pub mod SpelledStrings
+pub mod Spells

@@ -1,0 +1,34 @@
+//! What holds of the grammar and of reading. These functions do nothing: their contracts are the laws.
+
+ghost use Rattle.std.specs.Prelude.{◌≡◌, ◌++◌, ◌∷◌, ℕ, List, Ok, IsUtf8};
+ghost use Rattle.pv_tree.specs.declared.Tree.{Tree};
+ghost use Rattle.pv_json_grammar.specs.Strings.{string};
+ghost use Rattle.pv_json_grammar.specs.Values.{document};
+ghost use Rattle.pv_json_grammar.specs.SpelledStrings.{SpellsString};
+ghost use Rattle.pv_json_grammar.specs.Spells.{SpellsDocument};
+
+/// What spells a text is read as that text, whatever follows.
+pub fn strings_are_read()
+    ensures { (text bytes tail rest : List ℕ) → SpellsString text bytes → text ++ rest ≡ 34 ∷ tail → string tail ≡ Ok (bytes, rest) }
+{}
+
+/// What is read as a text is spelled by the bytes that were taken, and is UTF-8.
+pub fn strings_are_spelled()
+    ensures spelled { (tail bytes rest : List ℕ) → string tail ≡ Ok (bytes, rest) → (text : List ℕ) × SpellsString text bytes × (34 ∷ tail ≡ text ++ rest) }
+    ensures utf8 { (tail bytes rest : List ℕ) → string tail ≡ Ok (bytes, rest) → IsUtf8 bytes }
+{}
+
+/// What is read as a document is spelled by all of the bytes.
+pub fn documents_are_spelled()
+    ensures { (n : ℕ) (bs : List ℕ) (t : Tree) → document n bs ≡ Ok t → SpellsDocument n bs t }
+{}
+
+/// What spells a document is read as that document.
+pub fn documents_are_read()
+    ensures { (n : ℕ) (bs : List ℕ) (t : Tree) → SpellsDocument n bs t → document n bs ≡ Ok t }
+{}
+
+/// No bytes spell two trees.
+pub fn one_tree()
+    ensures { (n : ℕ) (bs : List ℕ) (t u : Tree) → SpellsDocument n bs t → SpellsDocument n bs u → t ≡ u }
+{}

@@ -1,0 +1,8 @@
+//! JSON texts (RFC 8259): which bytes spell which tree, how they are read, and that the two agree.
+#![tactic(auto)]
+
+mod laws;
+
+pub use laws::{
+    documents_are_read, documents_are_spelled, one_tree, strings_are_read, strings_are_spelled,
+};

@@ -1,0 +1,82 @@
+//! How trees are made.
+
+ghost use Rattle.std.specs.Prelude.{◌≡◌, IfOk};
+ghost use Rattle.pv_tree.specs.Merging.{put_all, merged};
+
+use crate::building::Building;
+use crate::row::Row;
+use crate::tree::{Members, Tree, Trees};
+use pv_text::{Memory, Text};
+use std::alloc::Global;
+
+/// The members in their order, a repeated name merged.
+#[tactic(auto, unfolding(crate::specs::Merging::merged))]
+fn merge(alloc: Global, mut members: Vec<(Text, Tree)>) -> Result<Vec<(Text, Tree)>, Memory>
+    ensures { IfOk result (λ all. all.items ≡ merged members.items) }
+{
+    let mut building = Building::new(alloc);
+    for (name, value) in members {
+        building.put(name, value)?;
+    }
+    building.into_members(alloc)
+}
+
+#[cycle(share)]
+fn share_trees(alloc: Global, items: &Trees) -> Result<Trees, Memory>
+    ensures { IfOk result (λ all. all ≡ items.now) }
+{
+    if let Some(row) = items.try_share() {
+        return Ok(row);
+    }
+    let mut all = Vec::new(alloc);
+    for tree in items.as_slice() {
+        all.push(tree.share(alloc)?)?;
+    }
+    Row::from_vec(alloc, all)
+}
+
+#[cycle(share)]
+fn share_members(alloc: Global, members: &Members) -> Result<Members, Memory>
+    ensures { IfOk result (λ all. all ≡ members.now) }
+{
+    if let Some(row) = members.try_share() {
+        return Ok(row);
+    }
+    let mut all = Vec::new(alloc);
+    for (name, value) in members.as_slice() {
+        let name = name.share(alloc)?;
+        let value = value.share(alloc)?;
+        all.push((name, value))?;
+    }
+    Row::from_vec(alloc, all)
+}
+
+impl Tree {
+    pub fn array(alloc: Global, items: Vec<Tree>) -> Result<Tree, Memory>
+        ensures { IfOk result (λ t. t ≡ Tree.Array items.items) }
+    {
+        Ok(Tree::Array(Row::from_vec(alloc, items)?))
+    }
+
+    /// Of members with one name the first place and the last value are kept.
+    pub fn object(alloc: Global, members: Vec<(Text, Tree)>) -> Result<Tree, Memory>
+        ensures { IfOk result (λ t. t ≡ Tree.Object (merged members.items)) }
+    {
+        Ok(Tree::Object(Row::from_vec(alloc, merge(alloc, members)?)?))
+    }
+
+    /// An equal tree, one more owner of what it holds. Where no further owner can be counted, it is a copy.
+    #[cycle(share)]
+    pub fn share(&self, alloc: Global) -> Result<Tree, Memory>
+        ensures { IfOk result (λ t. t ≡ self.now) }
+    {
+        match self {
+            Tree::Null => Ok(Tree::Null),
+            Tree::Bool(b) => Ok(Tree::Bool(*b)),
+            Tree::Num(lexeme) => Ok(Tree::Num(lexeme.share(alloc)?)),
+            Tree::Str(text) => Ok(Tree::Str(text.share(alloc)?)),
+            Tree::Array(items) => Ok(Tree::Array(share_trees(alloc, items)?)),
+            Tree::Object(members) => Ok(Tree::Object(share_members(alloc, members)?)),
+        }
+    }
+}
