@@ -9,6 +9,9 @@ use pv_text::Bytes;
 use std::alloc::{AllocError, Global};
 use thiserror::Error;
 
+// How many bytes one read asks for at most.
+const PIECE: usize = 4096;
+
 /// Why a file was not loaded.
 #[derive(Clone, Copy, Debug, PartialEq, Eq, Drop, Error)]
 pub enum LoadFault {
@@ -100,9 +103,6 @@ fn read_rest<F: Shelf>(alloc: Global, shelf: &mut F, limit: u64) -> Result<Vec<u
     }
     Err(LoadFault::TooLarge)
 }
-
-// How many bytes one read asks for at most.
-const PIECE: usize = 4096;
 
 /// The whole file of this name, which is read in pieces of at most 4,096 bytes.
 pub fn load<F: Shelf>(
