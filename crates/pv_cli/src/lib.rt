@@ -1,0 +1,12 @@
+//! The program's commands over any files and streams.
+#![tactic(auto)]
+
+mod answer;
+mod command;
+mod schema;
+mod status;
+mod words;
+
+pub use answer::Answer;
+pub use status::Status;
+pub use words::Words;
