@@ -1,2 +1,4 @@
 pub mod Completeness
 pub mod Soundness
+pub mod Runs
+pub mod Exponents
