@@ -1,8 +1,8 @@
 -- The difference of two exponents, stopped on both sides.
-use Rattle.std.proofs.Common.{◌≡◌, ℕ, suc, ◌+◌, ◌-◌, ◌*◌, ◌^◌, ◌<◌, ◌≤◌, Bool, true, false, List, length, ℤ, pos, negsuc, neg_ℤ, ◌+ℤ◌, ◌-ℤ◌, ◌*ℤ◌, ◌≤ℤ◌, refl, sym, ap, ◌∙◌, subst, arith}
+use Rattle.std.proofs.Common.{◌≡◌, ℕ, ◌+◌, ◌-◌, ◌*◌, ◌<◌, ◌≤◌, Bool, true, false, List, length, ℤ, pos, negsuc, ◌+ℤ◌, ◌-ℤ◌, ◌*ℤ◌, ◌≤ℤ◌, refl, ap, ◌∙◌, arith}
 use Rattle.std.proofs.lemmas.Int.{ints, clamps}
 use Rattle.pv_number.specs.ExactNumber.{signed, natural}
-use Rattle.pv_number.specs.Decimals.{capped, far, run}
+use Rattle.pv_number.specs.Decimals.{capped, run}
 use Rattle.pv_number.proofs.Runs.{run_none, natural_run}
 
 pub capped_more : (x d : ℤ) → negsuc 18 ≤ℤ d → d ≤ℤ pos 18 → capped (capped x *ℤ pos 10 +ℤ d) ≡ capped (x *ℤ pos 10 +ℤ d)
@@ -61,3 +61,6 @@ difference_step c r p q xs ys rank a b some e f la lb is new =
 
 pub stopped : (r x y : ℤ) → r ≡ capped x → x ≡ y → r ≡ capped y
 stopped r x y e f = e ∙ ap capped f
+
+pub capped_alone : (c x y : ℤ) → y ≡ pos 0 → c ≡ capped (x -ℤ y) → c ≡ capped x
+capped_alone c x y none e = stopped c (x -ℤ y) x e (omega (arith, ints))

@@ -2,3 +2,5 @@ pub mod Completeness
 pub mod Soundness
 pub mod Runs
 pub mod Exponents
+pub mod WholeValue
+pub mod WholeLaws

@@ -1,12 +1,12 @@
 //! A number taken apart into its signs and digits.
 
-use crate::lexeme::Lexeme;
-use crate::scanning::begins;
-
 ghost use Rattle.std.specs.Prelude.{◌≡◌, ◌+◌, ◌-◌, ◌*◌, ◌^◌, ◌<◌, ◌≤◌, pos, SomeIff, length, take, drop, slice_index_or};
 ghost use Rattle.std.specs.List.{position_or_len};
 ghost use Rattle.pv_number.specs.ExactNumber as spec;
 ghost use Rattle.pv_number.specs.Decimals.{digits, exponent_of, number_of, run};
+
+use crate::lexeme::Lexeme;
+use crate::scanning::begins;
 
 #[derive(Clone, Copy)]
 pub(crate) struct Exponent<'a> {
@@ -27,7 +27,11 @@ pub(crate) struct Decimal<'a> {
 pub(crate) fn digit_value(byte: u8) -> u8
     ensures { result ≡ spec.digit byte }
 {
-    if byte.is_ascii_digit() { byte - b'0' } else { 0 }
+    if byte.is_ascii_digit() {
+        byte - b'0'
+    } else {
+        0
+    }
 }
 
 /// The digit at `place`, and 0 behind the last.
@@ -175,7 +179,9 @@ impl Decimal<'_> {
     {
         let mut value = 0u128;
         for place in 0..count {
-            value = value.checked_mul(10)?.checked_add(self.digit(place) as u128)?;
+            value = value
+                .checked_mul(10)?
+                .checked_add(self.digit(place) as u128)?;
         }
         Some(value)
     }

@@ -1,10 +1,10 @@
 //! Written exponents, which may have any number of digits.
 
-use crate::decimal::{digit_value, Exponent};
-
 ghost use Rattle.std.specs.Prelude.{◌≡◌, ◌+◌, ◌-◌, ◌*◌, ◌≤◌, pos, negsuc, neg_ℤ, ◌+ℤ◌, ◌-ℤ◌, ◌*ℤ◌, ◌≤ℤ◌, length};
 ghost use Rattle.pv_number.specs.ExactNumber as spec;
 ghost use Rattle.pv_number.specs.Decimals.{capped, exponent_of, far, run};
+
+use crate::decimal::{Exponent, digit_value};
 
 /// No list of digits is as long. Where two exponents are as far apart, they decide alone.
 pub(crate) const FAR: i128 = 1 << 100;
@@ -28,7 +28,11 @@ fn signed(negative: bool, digit: u8) -> i128
     ensures high { result ≤ℤ pos 9 }
     ensures value { result ≡ spec.signed negative digit }
 {
-    if negative { -(digit as i128) } else { digit as i128 }
+    if negative {
+        -(digit as i128)
+    } else {
+        digit as i128
+    }
 }
 
 #[tactic(auto, unfolding(crate::specs::Decimals::capped))]
@@ -58,7 +62,9 @@ fn next_difference(difference: i128, upper: i128, lower: i128) -> i128
 /// How far apart two exponents are, stopped at `FAR` on both sides.
 #[tactic(auto, using(crate::proofs::Exponents::difference_none, crate::proofs::Exponents::difference_more, crate::proofs::Exponents::difference_all))]
 pub(crate) fn exponent_difference(a: &Exponent, b: &Exponent) -> i128
-    ensures { result ≡ capped (exponent_of a.now -ℤ exponent_of b.now) }
+    ensures low { neg_ℤ (pos far) ≤ℤ result }
+    ensures high { result ≤ℤ pos far }
+    ensures value { result ≡ capped (exponent_of a.now -ℤ exponent_of b.now) }
 {
     let mut difference = 0;
     let mut rank = a.digits.len().max(b.digits.len());

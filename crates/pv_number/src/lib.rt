@@ -7,8 +7,10 @@ mod exponent;
 mod laws;
 mod lexeme;
 mod scanning;
+mod value;
 
 pub use exact::Whole;
-pub use laws::numbers_are_scanned;
+pub use laws::{numbers_are_scanned, wholes_are_one};
 pub use lexeme::{Lexeme, LexemeFault};
 pub use scanning::number_len;
+pub use value::{is_integer, whole};
