@@ -1,10 +1,16 @@
 //! The spellings of JSON numbers.
 #![tactic(auto)]
 
+mod decimal;
+mod exact;
+mod exponent;
 mod laws;
 mod lexeme;
 mod scanning;
+mod value;
 
-pub use laws::numbers_are_scanned;
+pub use exact::Whole;
+pub use laws::{numbers_are_scanned, wholes_are_one};
 pub use lexeme::{Lexeme, LexemeFault};
 pub use scanning::number_len;
+pub use value::{is_integer, whole};
