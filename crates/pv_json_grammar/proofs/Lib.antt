@@ -4,6 +4,7 @@ pub mod Utf8
 pub mod StringSound
 pub mod StringComplete
 pub mod Utf8Kept
+pub mod Quoted
 pub mod Several
 pub mod SeveralSound
 pub mod SeveralComplete

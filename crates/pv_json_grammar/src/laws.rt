@@ -2,6 +2,7 @@
 
 ghost use Rattle.std.specs.Prelude.{◌≡◌, ◌++◌, ◌∷◌, ℕ, List, Ok, IsUtf8};
 ghost use Rattle.pv_tree.specs.declared.Tree.{Tree};
+ghost use Rattle.pv_notation.specs.Strings.{quoted};
 ghost use Rattle.pv_json_grammar.specs.Strings.{string};
 ghost use Rattle.pv_json_grammar.specs.Values.{document};
 ghost use Rattle.pv_json_grammar.specs.SpelledStrings.{SpellsString};
@@ -31,4 +32,9 @@ pub fn documents_are_read()
 /// No bytes spell two trees.
 pub fn one_tree()
     ensures { (n : ℕ) (bs : List ℕ) (t u : Tree) → SpellsDocument n bs t → SpellsDocument n bs u → t ≡ u }
+{}
+
+/// A text in quotes, with its escapes, spells that text.
+pub fn quoted_is_spelled()
+    ensures { (text : List ℕ) → IsUtf8 text → SpellsString (quoted text) text }
 {}
