@@ -5,6 +5,8 @@ pub mod StringSound
 pub mod StringComplete
 pub mod Utf8Kept
 pub mod Quoted
+pub mod Names
+pub mod CompactSpelled
 pub mod Several
 pub mod SeveralSound
 pub mod SeveralComplete

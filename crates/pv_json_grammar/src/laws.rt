@@ -3,10 +3,12 @@
 ghost use Rattle.std.specs.Prelude.{◌≡◌, ◌++◌, ◌∷◌, ℕ, List, Ok, IsUtf8};
 ghost use Rattle.pv_tree.specs.declared.Tree.{Tree};
 ghost use Rattle.pv_notation.specs.Strings.{quoted};
+ghost use Rattle.pv_notation.specs.Compact.{compact};
 ghost use Rattle.pv_json_grammar.specs.Strings.{string};
 ghost use Rattle.pv_json_grammar.specs.Values.{document};
 ghost use Rattle.pv_json_grammar.specs.SpelledStrings.{SpellsString};
 ghost use Rattle.pv_json_grammar.specs.Spells.{SpellsDocument};
+ghost use Rattle.pv_json_grammar.specs.DocumentTrees.{IsDocumentTree};
 
 /// What spells a text is read as that text, whatever follows.
 pub fn strings_are_read()
@@ -37,4 +39,9 @@ pub fn one_tree()
 /// A text in quotes, with its escapes, spells that text.
 pub fn quoted_is_spelled()
     ensures { (text : List ℕ) → IsUtf8 text → SpellsString (quoted text) text }
+{}
+
+/// The compact JSON of a tree that a document can spell spells that tree.
+pub fn compact_is_read()
+    ensures { (n : ℕ) (t : Tree) → IsDocumentTree n t → SpellsDocument n (compact t) t }
 {}
