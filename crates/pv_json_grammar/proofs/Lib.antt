@@ -7,6 +7,7 @@ pub mod Utf8Kept
 pub mod Quoted
 pub mod Names
 pub mod CompactSpelled
+pub mod SpelledTrees
 pub mod Several
 pub mod SeveralSound
 pub mod SeveralComplete

@@ -45,3 +45,13 @@ pub fn quoted_is_spelled()
 pub fn compact_is_read()
     ensures { (n : ℕ) (t : Tree) → IsDocumentTree n t → SpellsDocument n (compact t) t }
 {}
+
+/// What a document spells is a tree that a document can spell.
+pub fn documents_are_trees()
+    ensures { (n : ℕ) (bs : List ℕ) (t : Tree) → SpellsDocument n bs t → IsDocumentTree n t }
+{}
+
+/// The compact JSON of a tree that was read is read as that tree.
+pub fn compact_round_trip()
+    ensures { (n : ℕ) (bs : List ℕ) (t : Tree) → document n bs ≡ Ok t → document n (compact t) ≡ Ok t }
+{}
