@@ -1,6 +1,7 @@
 -- The compact JSON of a tree spells that tree.
-use Rattle.std.proofs.Common.{◌≡◌, ℕ, zero, suc, true, false, List, [], ◌∷◌, ◌++◌, map, refl, sym, ap, ◌∙◌, subst, append-nil}
-use Rattle.std.specs.Prelude.{IsUtf8}
+use Rattle.std.proofs.Common.{◌≡◌, ℕ, zero, suc, true, false, List, [], ◌∷◌, map, refl, sym, ap, ◌∙◌, subst, append-nil}
+use Rattle.std.proofs.lemmas.List.Elements.{recursion_from_All}
+use Rattle.std.specs.Prelude.{All, IsUtf8}
 use Rattle.std.specs.List.{AllByRecursion}
 use Rattle.pv_number.specs.Grammar.{IsNumber}
 use Rattle.pv_tree.specs.declared.Tree.{Tree, out-Tree, roll-Tree, roll-out-Tree}
@@ -76,16 +77,16 @@ module _ (S : List ℕ → Tree → Type 0) (Inner : Tree → Type 0) (spells : 
   members_spelled [] a = tt
   members_spelled (m ∷ ms) a = (member_spelled m a.0.0 a.0.1, members_spelled ms a.1)
 
-  level_spelled : (x : Tree-F Tree) → IsLevel (AllByRecursion Inner) (AreMembers Inner) x → SpellsValue S (compact (roll-Tree x)) (roll-Tree x)
+  level_spelled : (x : Tree-F Tree) → IsLevel (All Inner) (AreMembers Inner) x → SpellsValue S (compact (roll-Tree x)) (roll-Tree x)
   level_spelled Tree-F.Null l = spells_scalar (scalar_spelled Tree-F.Null l)
   level_spelled (Tree-F.Bool b) l = spells_scalar (scalar_spelled (Tree-F.Bool b) l)
   level_spelled (Tree-F.Num lexeme) l = spells_scalar (scalar_spelled (Tree-F.Num lexeme) l)
   level_spelled (Tree-F.Str text) l = spells_scalar (scalar_spelled (Tree-F.Str text) l)
   level_spelled (Tree-F.Array ts) l =
-      spells_array (joined (map compact ts)) ts (fold-roll-Tree (List ℕ) compact_step (Tree-F.Array ts)) (enclosed S compact ts (items_spelled ts l)) (rolls-Array ts)
+      spells_array (joined (map compact ts)) ts (fold-roll-Tree (List ℕ) compact_step (Tree-F.Array ts)) (enclosed S compact ts (items_spelled ts (recursion_from_All Inner ts l))) (rolls-Array ts)
   level_spelled (Tree-F.Object ms) l =
-      spells_object (joined (map compact_member ms)) ms (ap compact (rolls-Object ms) ∙ compact_object ms) (enclosed (SpellsMember S) compact_member ms (members_spelled ms l.0))
-          (rolls-Object ms ∙ ap tree.Object (sym (merged_same ms l.1)))
+      spells_object (joined (map compact_member ms)) ms (ap compact (rolls-Object ms) ∙ compact_object ms) (enclosed (SpellsMember S) compact_member ms (members_spelled ms (recursion_from_All (λ (m : List ℕ × Tree). IsUtf8 m.0 × Inner m.1) ms l.0)))
+      (rolls-Object ms ∙ ap tree.Object (sym (merged_same ms l.1)))
 
 pub compact_spelled : (n : ℕ) (t : Tree) → IsDocumentTree n t → Spells n (compact t) t
 unfolding Spells IsDocumentTree

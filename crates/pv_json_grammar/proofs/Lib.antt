@@ -8,6 +8,7 @@ pub mod Quoted
 pub mod Names
 pub mod CompactSpelled
 pub mod SpelledTrees
+pub mod CompactPrinted
 pub mod Several
 pub mod SeveralSound
 pub mod SeveralComplete

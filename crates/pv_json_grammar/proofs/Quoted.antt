@@ -1,12 +1,12 @@
 -- A text in quotes, with its escapes, spells that text.
 use Rattle.std.proofs.Common.{◌≡◌, ◌≢◌, ℕ, ◌+◌, ◌/◌, ◌%◌, ◌<◌, ◌≤◌, Bool, true, false, List, [], ◌∷◌, ◌++◌, map, refl, sym, ap, ◌∙◌, subst, inl, inr, append-nil, arith}
-use Rattle.std.proofs.lemmas.Bool.{lt-ltb, le-ltb, ltb-true, ltb-false, cases_lt}
+use Rattle.std.proofs.lemmas.Bool.{lt-ltb, le-ltb, cases_lt}
 use Rattle.std.proofs.lemmas.Bool.Decides.{eqb_tells}
 use Rattle.std.proofs.lemmas.Str.{encode_ascii}
 use Rattle.std.proofs.lemmas.Grind.{flat_map-append}
 use Rattle.std.specs.Char.{IsScalar, encode_utf8}
 use Rattle.std.specs.List.{flat_map, AllByRecursion}
-use Rattle.std.specs.Prelude.{◌⊎◌, ◌==◌, ◌&&◌, nat_lt, IsUtf8, encode_utf8_all}
+use Rattle.std.specs.Prelude.{◌&&◌, nat_lt, IsUtf8, encode_utf8_all}
 use Rattle.std.specs.Str.{all_scalars}
 use Rattle.pv_notation.specs.Strings.{hex_digit, short_escape, quoted}
 use Rattle.pv_notation.specs.Strings.{escaped as written}

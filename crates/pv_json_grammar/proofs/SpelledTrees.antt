@@ -1,9 +1,9 @@
 -- What is spelled is a tree of a document.
-use Rattle.std.proofs.Common.{◌≡◌, ℕ, zero, suc, true, false, List, [], ◌∷◌, refl, sym, ap, ◌∙◌, subst, Ok}
-use Rattle.std.specs.Prelude.{IsUtf8}
+use Rattle.std.proofs.Common.{◌≡◌, ℕ, zero, suc, true, false, List, [], ◌∷◌, sym, ap, ◌∙◌, subst, Ok}
+use Rattle.std.proofs.lemmas.List.Elements.{All-from_recursion}
+use Rattle.std.specs.Prelude.{All, IsUtf8}
 use Rattle.std.specs.List.{AllByRecursion}
 use Rattle.pv_tree.specs.declared.Tree.{Tree, out-Tree, roll-Tree, out-roll-Tree}
-use Rattle.pv_tree.specs.declared.Tree.TheVariants as tree
 use Rattle.pv_tree.specs.declared.Tree.TheVariants.{rolls-Null, rolls-Bool, rolls-Num, rolls-Str, rolls-Array, rolls-Object}
 use Rattle.pv_tree.specs.declared.Tree.TheOpen.{Tree-F}
 use Rattle.pv_tree.specs.Merging.{merged}
@@ -46,13 +46,13 @@ module _ (S : List ℕ → Tree → Type 0) (Inner : Tree → Type 0) (holds : (
   member_holds : (bs : List ℕ) (m : List ℕ × Tree) → SpellsMember S bs m → IsUtf8 m.0 × Inner m.1
   member_holds bs m s = (spelled_utf8 s.name m.0 s.spells_name, holds s.value m.1 s.spells_value)
 
-  value_level : (bs : List ℕ) (t : Tree) → SpellsValue S bs t → IsLevel (AllByRecursion Inner) (AreMembers Inner) (out-Tree t)
-  value_level bs t (spells_scalar s) = scalar_level (AllByRecursion Inner) (AreMembers Inner) bs t s
+  value_level : (bs : List ℕ) (t : Tree) → SpellsValue S bs t → IsLevel (All Inner) (AreMembers Inner) (out-Tree t)
+  value_level bs t (spells_scalar s) = scalar_level (All Inner) (AreMembers Inner) bs t s
   value_level bs t (spells_array inside ts e i f) =
-      opened (AllByRecursion Inner) (AreMembers Inner) (Tree-F.Array ts) t (rolls-Array ts ∙ sym f) (each_enclosed S Inner holds inside ts i)
+      opened (All Inner) (AreMembers Inner) (Tree-F.Array ts) t (rolls-Array ts ∙ sym f) (All-from_recursion Inner ts (each_enclosed S Inner holds inside ts i))
   value_level bs t (spells_object inside ms e i f) =
-      opened (AllByRecursion Inner) (AreMembers Inner) (Tree-F.Object (merged ms)) t (rolls-Object (merged ms) ∙ sym f) (
-        merged_keeps IsUtf8 Inner ms (each_enclosed (SpellsMember S) (λ m. IsUtf8 m.0 × Inner m.1) member_holds inside ms i),
+      opened (All Inner) (AreMembers Inner) (Tree-F.Object (merged ms)) t (rolls-Object (merged ms) ∙ sym f) (
+        All-from_recursion (λ (m : List ℕ × Tree). IsUtf8 m.0 × Inner m.1) (merged ms) (merged_keeps IsUtf8 Inner ms (each_enclosed (SpellsMember S) (λ m. IsUtf8 m.0 × Inner m.1) member_holds inside ms i)),
         merged_distinct ms,
       )
 

@@ -1,6 +1,6 @@
 //! What holds of the grammar and of reading. These functions do nothing: their contracts are the laws.
 
-ghost use Rattle.std.specs.Prelude.{◌≡◌, ◌++◌, ◌∷◌, ℕ, List, Ok, IsUtf8};
+ghost use Rattle.std.specs.Prelude.{◌≡◌, ◌≢◌, ◌≤◌, ◌++◌, ◌∷◌, ℕ, List, Ok, All, IsUtf8};
 ghost use Rattle.pv_tree.specs.declared.Tree.{Tree};
 ghost use Rattle.pv_notation.specs.Strings.{quoted};
 ghost use Rattle.pv_notation.specs.Compact.{compact};
@@ -54,4 +54,10 @@ pub fn documents_are_trees()
 /// The compact JSON of a tree that was read is read as that tree.
 pub fn compact_round_trip()
     ensures { (n : ℕ) (bs : List ℕ) (t : Tree) → document n bs ≡ Ok t → document n (compact t) ≡ Ok t }
+{}
+
+/// The compact JSON of a tree is one line, and holds no control character.
+pub fn compact_has_no_line_feed()
+    ensures line { (n : ℕ) (t : Tree) → IsDocumentTree n t → All (λ b. b ≢ 10) (compact t) }
+    ensures printed { (n : ℕ) (t : Tree) → IsDocumentTree n t → All (λ b. 32 ≤ b) (compact t) }
 {}
