@@ -1,5 +1,5 @@
 -- The compact JSON of a tree: no white space, and lexemes as they are.
-use Rattle.std.specs.Prelude.{ℕ, true, false, if◌then◌else◌, List, [], ◌∷◌, ◌++◌, map, codes}
+use Rattle.std.specs.Prelude.{ℕ, if◌then◌else◌, List, [], ◌∷◌, ◌++◌, map, codes}
 use Rattle.pv_tree.specs.declared.Tree.{Tree, fold-Tree}
 use Rattle.pv_tree.specs.declared.Tree.TheOpen.{Tree-F}
 use Rattle.pv_notation.specs.Strings.{quoted}

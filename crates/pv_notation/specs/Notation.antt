@@ -1,5 +1,5 @@
 -- The notation of a value: JSON, in which all but null, flags, whole numbers, texts and lists is an object with one name that says what it is.
-use Rattle.std.specs.Prelude.{ℕ, ◌/◌, ◌%◌, true, false, if◌then◌else◌, List, [], ◌∷◌, ◌++◌, map, codes}
+use Rattle.std.specs.Prelude.{ℕ, if◌then◌else◌, List, [], ◌∷◌, ◌++◌, map, codes}
 use Rattle.std.specs.List.{flat_map}
 use Rattle.std.specs.Fmt.{signed_decimal}
 use Rattle.pv_tree.specs.declared.Value.{Value, fold-Value}

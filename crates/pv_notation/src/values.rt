@@ -124,20 +124,6 @@ fn write_named_value(name: &Text, value: &Value, out: &mut ByteBuf) -> Result<()
 
 #[cycle(value)]
 #[tactic(auto, using(crate::proofs::Fronts::fronts))]
-fn write_entry(entry: &(Value, Value), out: &mut ByteBuf) -> Result<(), Memory>
-    ensures ok { OnOk result (out.new ≡ out.old ++ entry_notation entry.now) }
-    ensures err { OnErr result (IsFront out.old out.new) }
-{
-    out.push(b'[')?;
-    write_part(&entry.0, out)?;
-    out.push(b',')?;
-    write_part(&entry.1, out)?;
-    out.push(b']')?;
-    Ok(())
-}
-
-#[cycle(value)]
-#[tactic(auto, using(crate::proofs::Fronts::fronts))]
 fn write_values(values: &[Value], out: &mut ByteBuf) -> Result<(), Memory>
     ensures ok { OnOk result (out.new ≡ out.old ++ joined (map notation values.now)) }
     ensures err { OnErr result (IsFront out.old out.new) }
@@ -176,13 +162,20 @@ fn write_entries(entries: &[(Value, Value)], out: &mut ByteBuf) -> Result<(), Me
     ensures ok { OnOk result (out.new ≡ out.old ++ joined (map entry_notation entries.now)) }
     ensures err { OnErr result (IsFront out.old out.new) }
 {
-    let Some((first, rest)) = entries.split_first() else {
+    let Some(((key, value), rest)) = entries.split_first() else {
         return Ok(());
     };
-    write_entry(first, out)?;
-    for entry in rest {
+    out.push(b'[')?;
+    write_part(key, out)?;
+    out.push(b',')?;
+    write_part(value, out)?;
+    out.push(b']')?;
+    for (key, value) in rest {
+        out.push_slice(b",[")?;
+        write_part(key, out)?;
         out.push(b',')?;
-        write_entry(entry, out)?;
+        write_part(value, out)?;
+        out.push(b']')?;
     }
     Ok(())
 }
@@ -213,7 +206,11 @@ fn write_part(value: &Value, out: &mut ByteBuf) -> Result<(), Memory>
         Value::Lexeme(lexeme) => write_tagged("number", lexeme.as_slice(), out)?,
         Value::Str(text) => write_quoted(text.as_str().as_bytes(), out)?,
         Value::Bytes(bytes) => write_hex(bytes.as_slice(), out)?,
-        Value::Atom { kind, text } => write_tagged(atom_name(*kind), text.as_str().as_bytes(), out)?,
+        Value::Atom { kind, text } => write_tagged(
+            atom_name(*kind),
+            text.as_str().as_bytes(),
+            out,
+        )?,
         Value::Enum { cls, name, value } => {
             open_list_of("enum", cls, out)?;
             write_quoted(name.as_str().as_bytes(), out)?;

@@ -9,5 +9,5 @@ invariant-write_values-loop-value l = l.out ≡ l.initial.out ++ flat_map (λ v.
 abbrev pub invariant-write_named-loop-name : goal.invariant-write_named-loop-name
 invariant-write_named-loop-name l = l.out ≡ l.initial.out ++ flat_map (λ m. 44 ∷ named_notation m) (take l.name-index l.rest)
 
-abbrev pub invariant-write_entries-loop-entry : goal.invariant-write_entries-loop-entry
-invariant-write_entries-loop-entry l = l.out ≡ l.initial.out ++ flat_map (λ m. 44 ∷ entry_notation m) (take l.entry-index l.rest)
+abbrev pub invariant-write_entries-loop-key : goal.invariant-write_entries-loop-key
+invariant-write_entries-loop-key l = l.out ≡ l.initial.out ++ flat_map (λ m. 44 ∷ entry_notation m) (take l.key-index l.rest)
