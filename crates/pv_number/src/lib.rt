@@ -8,9 +8,11 @@ mod laws;
 mod lexeme;
 mod scanning;
 mod value;
+mod written;
 
 pub use exact::Whole;
 pub use laws::{numbers_are_scanned, wholes_are_one};
 pub use lexeme::{Lexeme, LexemeFault};
 pub use scanning::number_len;
 pub use value::{is_integer, whole};
+pub use written::integer;
