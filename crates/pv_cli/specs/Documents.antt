@@ -1,11 +1,10 @@
 -- What is answered to a document under a schema.
-use Rattle.std.specs.Prelude.{ℕ, ◌&&◌, if◌then◌else◌, List, [], ◌∷◌, ◌++◌, length, codes, Result, Ok, Err}
+use Rattle.std.specs.Prelude.{ℕ, List, [], ◌∷◌, ◌++◌, length, codes, ℤ, Option, Some, None, Result, Ok, Err}
 use Rattle.std.specs.Fmt.{signed_decimal}
-use Rattle.pv_number.specs.ExactNumber.{number, is_integer}
-use Rattle.pv_tree.specs.Plain.{is_small, plain}
-use Rattle.pv_tree.specs.declared.Tree.{Tree}
-use Rattle.pv_tree.specs.declared.Tree.TheVariants as tree
-use Rattle.pv_tree.specs.declared.Tree.TheOpen.{out-Tree, Tree-F}
+use Rattle.pv_number.specs.WrittenIntegers.{integer}
+use Rattle.pv_tree.specs.Plain.{plain}
+use Rattle.pv_tree.specs.declared.Tree.{Tree, out-Tree}
+use Rattle.pv_tree.specs.declared.Tree.TheOpen.{Tree-F}
 use Rattle.pv_notation.specs.Strings.{quoted}
 use Rattle.pv_notation.specs.Compact.{compact}
 use Rattle.pv_notation.specs.Notation.{notation}
@@ -15,10 +14,10 @@ use Rattle.pv_cli.specs.Lines.{line}
 use Rattle.pv_cli.specs.declared.answer.Answer.{Answer}
 use Rattle.pv_cli.specs.declared.schema.Schema.{Schema}
 use Rattle.pv_cli.specs.declared.schema.Schema.TheVariants as schema
-use Rattle.pv_cli.specs.declared.Status.{Status}
-use Rattle.pv_cli.specs.declared.Status.TheVariants as status
+use Rattle.pv_cli.specs.declared.status.Status.{Status}
+use Rattle.pv_cli.specs.declared.status.Status.TheVariants as status
 
--- printed on standard output
+-- a text and a line feed on standard output
 abbrev pub printed : List ℕ → Status → Answer
 printed text status = record { out = line text; line = []; status = status }
 
@@ -29,7 +28,7 @@ refused text status = record { out = []; line = text; status = status }
 abbrev pub not_built : Answer
 not_built = refused (line (codes "not built yet")) status.NotYet
 
--- the list of the one error that no whole number was given
+-- the list of the one error that no integer was given
 abbrev pub int_type_errors : Tree → List ℕ
 int_type_errors t = codes "[{\"type\":\"int_type\",\"loc\":[],\"msg\":\"Input should be a valid integer\",\"input\":" ++ compact t ++ codes "}]"
 
@@ -38,21 +37,28 @@ abbrev pub json_errors : List ℕ → List ℕ
 json_errors text =
     codes "[{\"type\":\"json_invalid\",\"loc\":[],\"msg\":" ++ quoted (codes "Invalid JSON: " ++ text) ++ codes ",\"input\":null,\"ctx\":{\"error\":" ++ quoted text ++ codes "}}]"
 
--- a lexeme under `int`: whole numbers of 128 bits are served so far, where they stand without a point and an exponent
-abbrev pub int_lexeme : List ℕ → Answer
-int_lexeme lexeme = if is_integer lexeme && is_small (number lexeme).significand then printed (signed_decimal (number lexeme).significand) status.Valid else not_built
+-- a number under `int`, by the integer that is written there
+abbrev pub int_number : Option ℤ → Answer
+int_number (Some n) = printed (signed_decimal n) status.Valid
+int_number None = not_built
 
 abbrev pub int_at : Tree → Tree-F Tree → Answer
-int_at t (Tree-F.Num lexeme) = int_lexeme lexeme
-int_at t (Tree-F.Bool b) = not_built
-int_at t (Tree-F.Str text) = not_built
 int_at t Tree-F.Null = printed (int_type_errors t) status.Invalid
+int_at t (Tree-F.Bool b) = not_built
+int_at t (Tree-F.Num lexeme) = int_number (integer lexeme)
+int_at t (Tree-F.Str text) = not_built
 int_at t (Tree-F.Array items) = printed (int_type_errors t) status.Invalid
 int_at t (Tree-F.Object members) = printed (int_type_errors t) status.Invalid
 
+unfoldable pub int_answer : Tree → Answer
+int_answer t = int_at t (out-Tree t)
+
+abbrev pub any_answer : Tree → Answer
+any_answer t = printed (notation (plain t)) status.Valid
+
 abbrev pub of_tree : Schema → Tree → Answer
-of_tree schema.Int t = int_at t (out-Tree t)
-of_tree schema.Any t = printed (notation (plain t)) status.Valid
+of_tree schema.Int t = int_answer t
+of_tree schema.Any t = any_answer t
 
 abbrev pub of_reading : Schema → ℕ → Result Tree ℕ → Answer
 of_reading schema size (Ok t) = of_tree schema t

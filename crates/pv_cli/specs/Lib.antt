@@ -4,5 +4,5 @@ pub mod Lines
 pub mod Faults
 pub mod Schemas
 pub mod Documents
-pub mod Answering
-pub mod Running
+
+

@@ -1,8 +1,8 @@
 -- The lines on standard error, each with its line feed.
 use Rattle.std.specs.Prelude.{◌≡◌, ℕ, List, [], ◌∷◌, ◌++◌, codes, Contains}
 use Rattle.pv_notation.specs.Strings.{quoted}
-use Rattle.pv_cli.specs.declared.Status.{Status}
-use Rattle.pv_cli.specs.declared.Status.TheVariants.{Valid, Invalid, WordsRefused, SchemaRefused, ReadFault, TooLarge, WriteFault, Memory, DumpRefused, NotYet}
+use Rattle.pv_cli.specs.declared.status.Status.{Status}
+use Rattle.pv_cli.specs.declared.status.Status.TheVariants.{Valid, Invalid, WordsRefused, SchemaRefused, ReadFault, TooLarge, WriteFault, Memory, DumpRefused, NotYet}
 
 abbrev pub line : List ℕ → List ℕ
 line text = text ++ 10 ∷ []

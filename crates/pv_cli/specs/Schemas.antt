@@ -1,7 +1,7 @@
 -- The schemas that are served: an object with the one member `type`, which is `int` or `any`.
 use Rattle.std.specs.Prelude.{ℕ, if◌then◌else◌, List, [], ◌∷◌, codes, Option, Some, None, bytes_eq}
-use Rattle.pv_tree.specs.declared.Tree.{Tree}
-use Rattle.pv_tree.specs.declared.Tree.TheOpen.{out-Tree, Tree-F}
+use Rattle.pv_tree.specs.declared.Tree.{Tree, out-Tree}
+use Rattle.pv_tree.specs.declared.Tree.TheOpen.{Tree-F}
 use Rattle.pv_cli.specs.declared.schema.Schema.{Schema}
 use Rattle.pv_cli.specs.declared.schema.Schema.TheVariants as schema
 

@@ -3,10 +3,12 @@
 
 mod answer;
 mod command;
+mod document;
 mod schema;
 mod status;
 mod words;
 
 pub use answer::Answer;
+pub use schema::Schema;
 pub use status::Status;
 pub use words::Words;
