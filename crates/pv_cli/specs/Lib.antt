@@ -4,5 +4,6 @@ pub mod Lines
 pub mod Faults
 pub mod Schemas
 pub mod Documents
-
-
+pub mod Answering
+pub mod Running
+pub mod Steps

@@ -16,7 +16,11 @@ impl Answer {
     ghost use Rattle.pv_cli.specs.Documents as spec;
 
     /// The text is printed with a line feed behind it.
-    pub(crate) fn printed(alloc: Global, mut text: ByteBuf, status: Status) -> Result<Answer, Memory>
+    pub(crate) fn printed(
+        alloc: Global,
+        mut text: ByteBuf,
+        status: Status,
+    ) -> Result<Answer, Memory>
         ensures { IfOk result (λ a. a ≡ spec.printed text status) }
     {
         text.push(b'\n')?;

@@ -2,10 +2,7 @@
 
 ghost use Rattle.std.specs.Prelude.{◌≡◌, ◌++◌, IfOk, codes, decimal};
 ghost use Rattle.std.specs.Fmt.{signed_decimal};
-
 ghost use Rattle.pv_cli.specs.Documents as spec;
-
-
 ghost use Rattle.pv_number.specs.WrittenIntegers.{integer};
 
 use crate::answer::Answer;
@@ -128,11 +125,7 @@ fn no_json(alloc: Global, text: ByteBuf) -> Result<Answer, Memory>
 }
 
 #[tactic(auto, unfolding(crate::specs::Documents::of_document))]
-pub(crate) fn answer_document(
-    alloc: Global,
-    schema: Schema,
-    bytes: &[u8],
-) -> Result<Answer, Memory>
+pub(crate) fn answer_document(alloc: Global, schema: Schema, bytes: &[u8]) -> Result<Answer, Memory>
     ensures { IfOk result (λ a. a ≡ spec.of_document schema bytes.now) }
 {
     match read(alloc, bytes) {

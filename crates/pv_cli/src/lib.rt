@@ -4,9 +4,11 @@
 mod answer;
 mod command;
 mod document;
+mod lines;
 mod schema;
 mod status;
 mod words;
+mod working;
 
 pub use answer::Answer;
 pub use schema::Schema;
