@@ -9,7 +9,15 @@ use Rattle.std.specs.Fmt.{signed_decimal}
 use Rattle.pv_notation.specs.Notation.{notation}
 use Rattle.pv_tree.specs.Plain.{plain}
 use Rattle.pv_cli.specs.Faults.{fault_text}
-use Rattle.pv_cli.specs.Documents.{json_errors, int_type_errors, printed, not_built, int_number, int_at, int_answer, any_answer, of_tree, of_reading, of_document}
+use Rattle.pv_cli.specs.Answering.{of_schema, of_served}
+use Rattle.pv_cli.specs.Faults.{schema_fault_text}
+use Rattle.pv_cli.specs.Lines.{schema_refused}
+use Rattle.pv_cli.specs.Running.{is_printed}
+use Rattle.pv_cli.specs.Schemas.{schema_of}
+use Rattle.pv_cli.specs.Steps.{DecidesSchema, outcome_of}
+use Rattle.pv_cli.specs.declared.working.SchemaStep.{SchemaStep}
+use Rattle.pv_cli.specs.declared.working.SchemaStep.TheVariants.{Served, Answered}
+use Rattle.pv_cli.specs.Documents.{refused, json_errors, int_type_errors, printed, not_built, int_number, int_at, int_answer, any_answer, of_tree, of_reading, of_document}
 use Rattle.pv_cli.specs.Lines.{IsLineOf, IsOutOf}
 use Rattle.pv_cli.specs.declared.answer.Answer.{Answer}
 use Rattle.pv_cli.specs.declared.schema.Schema.{Schema}
@@ -57,3 +65,36 @@ reading s size (Err left) = invalid (json_errors (fault_text size left))
 pub document_settled : (s : Schema) (bs : List ℕ) → IsSettled (of_document s bs)
 unfolding of_document
 document_settled s bs = reading s (length bs) (document 128 bs)
+
+-- ---- a schema file that decides the answer
+
+refused_schema : (text : List ℕ) → IsSettled (refused (schema_refused text) status.SchemaRefused)
+refused_schema text = record { line = λ names. (text, refl); out = refl; read = λ e. cc; small = λ e. cc }
+
+abbrev unserved : Schema → Answer
+unserved s = not_built
+
+-- nothing is printed
+record IsUnprinted (a : Answer) : Type 0 where
+  settled : IsSettled a
+  silent : is_printed a.status ≡ false
+
+by_tree : (s : Option Schema) → IsUnprinted (of_served unserved s)
+by_tree None = record { settled = unbuilt; silent = refl }
+by_tree (Some s) = record { settled = unbuilt; silent = refl }
+
+by_schema : (size : ℕ) (read : Result Tree ℕ) → IsUnprinted (of_schema unserved size read)
+by_schema size (Ok t) = by_tree (schema_of t)
+by_schema size (Err left) = record { settled = refused_schema (schema_fault_text size left); silent = refl }
+
+-- it is the answer whatever schema would be served
+pub always : (size : ℕ) (read : Result Tree ℕ) (step : SchemaStep) (a : Answer) → DecidesSchema size read step → step ≡ Answered a → (next : Schema → Answer) → of_schema next size read ≡ a
+always size read step a d e next = d next ∙ ap (λ s. outcome_of s next) e
+
+pub answered_settled : (size : ℕ) (read : Result Tree ℕ) (step : SchemaStep) (a : Answer) → DecidesSchema size read step → step ≡ Answered a → IsSettled a
+answered_settled size read step a d e = subst (λ x. IsSettled x) (always size read step a d e unserved) (by_schema size read).settled
+
+pub answered_silent : (size : ℕ) (read : Result Tree ℕ) (step : SchemaStep) (a : Answer) → DecidesSchema size read step → step ≡ Answered a → is_printed a.status ≡ true → ⊥
+answered_silent size read step a d e printed =
+    let silent : is_printed a.status ≡ false = subst (λ x. is_printed x.status ≡ false) (always size read step a d e unserved) (by_schema size read).silent in
+    cc

@@ -45,6 +45,11 @@ is_decided NotYet = true
 abbrev pub size_of : List (List ℕ × List ℕ) → List ℕ → ℕ
 size_of files name = length (unwrap_or (file files name) [])
 
+-- how many bytes the files have that a command names
+abbrev pub read_size : List (List ℕ × List ℕ) → Option (List ℕ × List ℕ) → ℕ
+read_size files None = 0
+read_size files (Some names) = size_of files names.0 + size_of files names.1
+
 -- a value or a list of errors was printed
 abbrev pub is_printed : Status → Bool
 is_printed Valid = true

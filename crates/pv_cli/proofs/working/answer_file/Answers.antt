@@ -15,7 +15,7 @@ returns-in-Ok-clause-reply g c =
     let answered = rw c.as_slice.ensures at c.answer_document.ensures in
     ok_of c.answer_document.result a _ answered
     (loaded (g.F.Shelf.held c.args.shelf.now) c.args.name.now c.in-Ok.bytes (λ _. of_document c.args.schema) _ _ a is c.in-Ok.ensures.size
-      (decided (g.F.Shelf.held c.args.shelf.now) (λ _. a) _ _ a (document_settled c.args.schema c.in-Ok.bytes).read (λ _. refl)))
+    (decided (g.F.Shelf.held c.args.shelf.now) (λ _. a) _ _ a (document_settled c.args.schema c.in-Ok.bytes).read (λ _. refl)))
 
 pub returns-in-Ok-clause-line : goal.returns-in-Ok-clause-line
 returns-in-Ok-clause-line g c =
