@@ -34,8 +34,15 @@ IsLineOf names Memory text = text ≡ line (codes "out of memory")
 IsLineOf names DumpRefused text = ⊥
 IsLineOf names NotYet text = text ≡ line (codes "not built yet")
 
--- what is printed on standard output is a value or a list of errors, and nothing else
+-- what an answer prints on standard output with each status; an answer has none of the other statuses
 abbrev pub IsOutOf : Status → List ℕ → Type 0
 IsOutOf Valid text = Unit {0}
 IsOutOf Invalid text = Unit {0}
-IsOutOf _ text = text ≡ []
+IsOutOf WordsRefused text = ⊥
+IsOutOf SchemaRefused text = text ≡ []
+IsOutOf ReadFault text = text ≡ []
+IsOutOf TooLarge text = text ≡ []
+IsOutOf WriteFault text = ⊥
+IsOutOf Memory text = ⊥
+IsOutOf DumpRefused text = ⊥
+IsOutOf NotYet text = text ≡ []

@@ -5,12 +5,14 @@ mod answer;
 mod command;
 mod document;
 mod lines;
+mod running;
 mod schema;
 mod status;
 mod words;
 mod working;
 
 pub use answer::Answer;
+pub use running::run;
 pub use schema::Schema;
 pub use status::Status;
 pub use words::Words;

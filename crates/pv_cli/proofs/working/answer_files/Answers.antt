@@ -17,8 +17,8 @@ returns-in-Answered-clause-reply g c =
     loaded held c.args.schema_name.now bytes
     (λ files content. of_schema (λ schema. of_file name (of_document schema) (file files name)) (length content) (document 128 content)) _ _ c.in-Answered.answer is c.in-Ok.ensures.size
     (decided held (λ files. of_schema (λ schema. of_file name (of_document schema) (file files name)) (length bytes) (document 128 bytes)) _ _ c.in-Answered.answer
-      (answered_settled _ _ _ c.in-Answered.answer decides c.in-Answered.is).read
-      (λ files. sym (always _ _ _ c.in-Answered.answer decides c.in-Answered.is (λ schema. of_file name (of_document schema) (file files name)))))
+    (answered_settled _ _ _ c.in-Answered.answer decides c.in-Answered.is).read
+    (λ files. sym (always _ _ _ c.in-Answered.answer decides c.in-Answered.is (λ schema. of_file name (of_document schema) (file files name)))))
 
 pub returns-in-Answered-clause-line : goal.returns-in-Answered-clause-line
 returns-in-Answered-clause-line g c =
