@@ -1,6 +1,6 @@
 //! Strings (RFC 8259, section 7, and RFC 3629), a unit at a time. What is read are the bytes of the text.
 
-ghost use Rattle.std.specs.Prelude.{◌≡◌, ◌≤◌, ◌<◌, ◌+◌, ◌*◌, ◌==◌, if◌then◌else◌, ◌++◌, length, IfOk, encode_utf8};
+ghost use Rattle.std.specs.Prelude.{◌≡◌, ◌≤◌, ◌<◌, ◌+◌, ◌*◌, ◌==◌, if◌then◌else◌, ◌++◌, length, unwrap_or, IfOk, IfSome, encode_utf8};
 ghost use Rattle.std.specs.Char.{InScalarRange};
 ghost use Rattle.pv_json_grammar.specs.Reading.{onto};
 ghost use Rattle.pv_json_grammar.specs.Strings as spec;
@@ -11,31 +11,29 @@ use crate::symbols::byte_in;
 use pv_text::{ByteBuf, Memory, Text};
 use std::alloc::Global;
 
-fn second_least(b: u8) -> u8
-    ensures { result ≡ spec.second_least b }
+/// The least second byte of a character that begins with this byte.
+fn second_least(first: u8) -> u8
+    ensures { result ≡ spec.second_least first }
 {
-    if b == 224 {
-        160
-    } else if b == 240 {
-        144
-    } else {
-        128
+    match first {
+        0xe0 => 0xa0,
+        0xf0 => 0x90,
+        _ => 0x80,
     }
 }
 
-fn second_most(b: u8) -> u8
-    ensures { result ≡ spec.second_most b }
+/// The greatest second byte of a character that begins with this byte.
+fn second_most(first: u8) -> u8
+    ensures { result ≡ spec.second_most first }
 {
-    if b == 237 {
-        159
-    } else if b == 244 {
-        143
-    } else {
-        191
+    match first {
+        0xed => 0x9f,
+        0xf4 => 0x8f,
+        _ => 0xbf,
     }
 }
 
-/// A character of two to four bytes.
+/// Appends a character of two to four bytes of UTF-8.
 #[tactic(auto, unfolding(pv_json_grammar::specs::Strings::raw))]
 fn raw<'a>(out: &mut ByteBuf, s: &'a [u8]) -> Result<&'a [u8], ReadError>
     ensures { Gives (λ rest. (out.new, rest.now)) result (onto out.old (spec.raw s.now)) }
@@ -44,100 +42,96 @@ fn raw<'a>(out: &mut ByteBuf, s: &'a [u8]) -> Result<&'a [u8], ReadError>
         return Err(ReadError::Fault(0));
     };
     let b = *b;
-    if b < 194 || 244 < b {
+    if b < 0xc2 || 0xf4 < b {
         return Err(ReadError::Fault(s.len()));
     }
     let (c, rest) = byte_in(second_least(b), second_most(b), rest)?;
-    if b < 224 {
+    if b < 0xe0 {
         out.push_slice(&[b, c])?;
         return Ok(rest);
     }
-    let (d, rest) = byte_in(128, 191, rest)?;
-    if b < 240 {
+    let (d, rest) = byte_in(0x80, 0xbf, rest)?;
+    if b < 0xf0 {
         out.push_slice(&[b, c, d])?;
         return Ok(rest);
     }
-    let (e, rest) = byte_in(128, 191, rest)?;
+    let (e, rest) = byte_in(0x80, 0xbf, rest)?;
     out.push_slice(&[b, c, d, e])?;
     Ok(rest)
 }
 
+/// What a hexadecimal digit counts.
 #[tactic(auto, unfolding(pv_json_grammar::specs::Strings::hex_value))]
-fn hex_value(b: u8) -> u8
-    ensures value { result ≡ spec.hex_value b }
-    ensures small { result ≤ 16 }
+fn hex_value(b: u8) -> Option<u8>
+    ensures value { unwrap_or result 16 ≡ spec.hex_value b }
+    ensures small { IfSome result (λ value. value < 16) }
 {
-    if b < 48 {
-        16
-    } else if b < 58 {
-        b - 48
-    } else if b < 65 {
-        16
-    } else if b < 71 {
-        b - 55
-    } else if b < 97 {
-        16
-    } else if b < 103 {
-        b - 87
-    } else {
-        16
+    match b {
+        b'0'..=b'9' => Some(b - b'0'),
+        b'A'..=b'F' => Some(b - b'A' + 10),
+        b'a'..=b'f' => Some(b - b'a' + 10),
+        _ => None,
     }
 }
 
+/// A hexadecimal digit that counts so much, and what follows it.
 #[tactic(auto, unfolding(pv_json_grammar::specs::Strings::hex))]
 fn hex(least: u8, most: u8, s: &[u8]) -> Result<(u32, &[u8]), ReadError>
+    requires { most < 16 }
     ensures value { Gives (λ x. (x.0, x.1.now)) result (spec.hex least most s.now) }
     ensures within { IfOk result (λ x. (least ≤ x.0) × (x.0 ≤ most)) }
 {
     let [b, rest @ ..] = s else {
         return Err(ReadError::Fault(0));
     };
-    let value = hex_value(*b);
-    if least <= value && value <= most {
-        Ok((value as u32, rest))
-    } else {
-        Err(ReadError::Fault(s.len()))
+    match hex_value(*b) {
+        Some(value) if least <= value && value <= most => Ok((value as u32, rest)),
+        _ => Err(ReadError::Fault(s.len())),
     }
 }
 
+/// The number of this one and two hexadecimal digits more.
 #[tactic(auto, unfolding(pv_json_grammar::specs::Strings::two))]
 fn two(n: u32, s: &[u8]) -> Result<(u32, &[u8]), ReadError>
     requires { n ≤ 255 }
     ensures value { Gives (λ x. (x.0, x.1.now)) result (spec.two n s.now) }
     ensures within { IfOk result (λ x. (256 * n ≤ x.0) × (x.0 ≤ 256 * n + 255)) }
 {
-    let (c, rest) = hex(0, 15, s)?;
-    let (d, rest) = hex(0, 15, rest)?;
+    let (c, rest) = hex(0, 0xf, s)?;
+    let (d, rest) = hex(0, 0xf, rest)?;
     Ok(((n * 16 + c) * 16 + d, rest))
 }
 
-fn second_hex(first: u32) -> u8
+/// The greatest second digit behind this first one of an escape that is no low surrogate.
+fn second_digit_most(first: u32) -> u8
     ensures { result ≡ (if first == 13 then 11 else 15) }
 {
-    if first == 13 { 11 } else { 15 }
+    if first == 0xd { 0xb } else { 0xf }
 }
 
+/// Four hexadecimal digits that are no low surrogate.
 #[tactic(auto, unfolding(pv_json_grammar::specs::Strings::first_code))]
 fn first_code(s: &[u8]) -> Result<(u32, &[u8]), ReadError>
     ensures value { Gives (λ x. (x.0, x.1.now)) result (spec.first_code s.now) }
     ensures within { IfOk result (λ x. (x.0 < 65536) × (56320 ≤ x.0 → 57344 ≤ x.0)) }
 {
-    let (a, rest) = hex(0, 15, s)?;
-    let (b, rest) = hex(0, second_hex(a), rest)?;
+    let (a, rest) = hex(0, 0xf, s)?;
+    let (b, rest) = hex(0, second_digit_most(a), rest)?;
     let (code, rest) = two(a * 16 + b, rest)?;
     Ok((code, rest))
 }
 
+/// The escape of a low surrogate.
 #[tactic(auto, unfolding(pv_json_grammar::specs::Strings::low_code))]
 fn low_code(s: &[u8]) -> Result<(u32, &[u8]), ReadError>
     ensures value { Gives (λ x. (x.0, x.1.now)) result (spec.low_code s.now) }
     ensures within { IfOk result (λ x. (56320 ≤ x.0) × (x.0 < 57344)) }
 {
-    let (_, rest) = byte_in(92, 92, s)?;
-    let (_, rest) = byte_in(117, 117, rest)?;
-    let (_, rest) = hex(13, 13, rest)?;
-    let (b, rest) = hex(12, 15, rest)?;
-    let (code, rest) = two(208 + b, rest)?;
+    let (_, rest) = byte_in(b'\\', b'\\', s)?;
+    let (_, rest) = byte_in(b'u', b'u', rest)?;
+    let (_, rest) = hex(0xd, 0xd, rest)?;
+    let (b, rest) = hex(0xc, 0xf, rest)?;
+    let (code, rest) = two(0xd0 + b, rest)?;
     Ok((code, rest))
 }
 
@@ -146,9 +140,7 @@ fn push_code(out: &mut ByteBuf, code: u32) -> Result<(), Memory>
     requires { InScalarRange code }
     ensures { IfOk result (λ _. out.new ≡ out.old ++ encode_utf8 code) }
 {
-    let Some(c) = char::from_u32(code) else {
-        return Err(Memory);
-    };
+    let c = char::from_u32(code).unwrap();
     let mut four = [0; 4];
     out.push_slice(c.encode_utf8(&mut four).as_bytes())?;
     Ok(())
@@ -160,33 +152,29 @@ fn unicode<'a>(out: &mut ByteBuf, s: &'a [u8]) -> Result<&'a [u8], ReadError>
     ensures { Gives (λ rest. (out.new, rest.now)) result (onto out.old (spec.unicode s.now)) }
 {
     let (high, rest) = first_code(s)?;
-    if 55296 <= high && high < 56320 {
+    if 0xd800 <= high && high < 0xdc00 {
         let (low, rest) = low_code(rest)?;
-        push_code(out, (high - 55296) * 1024 + (low - 56320) + 65536)?;
+        push_code(out, (high - 0xd800) * 0x400 + (low - 0xdc00) + 0x10000)?;
         return Ok(rest);
     }
     push_code(out, high)?;
     Ok(rest)
 }
 
+/// What one letter behind a backslash stands for.
 #[tactic(auto, unfolding(pv_json_grammar::specs::Strings::escaped))]
-fn escaped(b: u8) -> u8
-    ensures { result ≡ spec.escaped b }
+fn escaped(b: u8) -> Option<u8>
+    ensures value { unwrap_or result 0 ≡ spec.escaped b }
+    ensures some { IfSome result (λ byte. 0 < byte) }
 {
-    if b == b'"' || b == b'\\' || b == b'/' {
-        b
-    } else if b == b'b' {
-        8
-    } else if b == b'f' {
-        12
-    } else if b == b'n' {
-        10
-    } else if b == b'r' {
-        13
-    } else if b == b't' {
-        9
-    } else {
-        0
+    match b {
+        b'"' | b'\\' | b'/' => Some(b),
+        b'b' => Some(0x08),
+        b'f' => Some(0x0c),
+        b'n' => Some(b'\n'),
+        b'r' => Some(b'\r'),
+        b't' => Some(b'\t'),
+        _ => None,
     }
 }
 
@@ -201,10 +189,9 @@ fn escape<'a>(out: &mut ByteBuf, s: &'a [u8]) -> Result<&'a [u8], ReadError>
     if *b == b'u' {
         return unicode(out, rest);
     }
-    let byte = escaped(*b);
-    if byte == 0 {
+    let Some(byte) = escaped(*b) else {
         return Err(ReadError::Fault(s.len()));
-    }
+    };
     out.push(byte)?;
     Ok(rest)
 }
@@ -217,7 +204,7 @@ fn plain(s: &[u8]) -> usize
 {
     let mut n = 0;
     for b in s {
-        if *b < 32 || 128 <= *b || *b == b'"' || *b == b'\\' {
+        if *b < 0x20 || 0x80 <= *b || *b == b'"' || *b == b'\\' {
             return n;
         }
         n += 1;
@@ -254,6 +241,7 @@ fn characters(alloc: Global, s: &[u8]) -> Result<(ByteBuf, &[u8]), ReadError>
 {
     let mut out = ByteBuf::new(alloc);
     let mut rest = s;
+    // Each turn takes a byte, so no more come than there are bytes.
     for i in 0..s.len() {
         let (closed, more) = turn(&mut out, rest)?;
         if closed {

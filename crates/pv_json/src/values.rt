@@ -88,6 +88,7 @@ fn items(alloc: Global, nesting: usize, s: &[u8]) -> Result<(Tree, &[u8]), ReadE
 {
     let mut all = Vec::new(alloc);
     let mut rest = s;
+    // Each turn takes a byte, so no more come than there are bytes.
     for i in 0..s.len() {
         let (item, more) = value(alloc, nesting, rest)?;
         all.push(item)?;
@@ -139,6 +140,7 @@ fn members(alloc: Global, nesting: usize, s: &[u8]) -> Result<(Tree, &[u8]), Rea
 {
     let mut all = Building::new(alloc);
     let mut rest = s;
+    // Each turn takes a byte, so no more come than there are bytes.
     for i in 0..s.len() {
         let ((name, value), more) = member(alloc, nesting, rest)?;
         all.put(name, value)?;
