@@ -3,3 +3,7 @@ pub mod Joins
 pub mod Objects
 pub mod Levels
 pub mod Written
+pub mod Inside
+pub mod Lines
+pub mod ValueLines
+pub mod TreeLines
