@@ -7,3 +7,7 @@ pub mod Inside
 pub mod Lines
 pub mod ValueLines
 pub mod TreeLines
+pub mod Codes
+pub mod Same
+pub mod ValueKinds
+pub mod Differ
