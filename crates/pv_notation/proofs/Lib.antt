@@ -11,3 +11,6 @@ pub mod Codes
 pub mod Same
 pub mod ValueKinds
 pub mod Differ
+pub mod Holding
+pub mod Sound
+pub mod TreeNumbers
