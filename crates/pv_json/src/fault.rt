@@ -4,10 +4,9 @@ use std::alloc::{AllocError, AllocFailed};
 /// Why bytes are no document. Want of memory may come in place of each answer.
 #[derive(Clone, Copy, Debug, PartialEq, Eq, Drop)]
 pub enum ReadFault {
-    /// No document begins with the input up to the byte at this place and that byte. Some document
-    /// begins with what stands before it.
+    /// The place, from 0, of the first byte that fits nowhere behind those before it.
     Bad { at: u64 },
-    /// Some document begins with the input, which is none itself.
+    /// All bytes fit, and a document wants more of them.
     End,
     Memory,
 }

@@ -3,3 +3,4 @@ pub mod Strings
 pub mod Values
 pub mod SpelledStrings
 pub mod Spells
+pub mod DocumentTrees

@@ -1,11 +1,14 @@
 //! What holds of the grammar and of reading. These functions do nothing: their contracts are the laws.
 
-ghost use Rattle.std.specs.Prelude.{◌≡◌, ◌++◌, ◌∷◌, ℕ, List, Ok, IsUtf8};
+ghost use Rattle.std.specs.Prelude.{◌≡◌, ◌≢◌, ◌≤◌, ◌++◌, ◌∷◌, ℕ, List, Ok, All, IsUtf8};
 ghost use Rattle.pv_tree.specs.declared.Tree.{Tree};
+ghost use Rattle.pv_notation.specs.Strings.{quoted};
+ghost use Rattle.pv_notation.specs.Compact.{compact};
 ghost use Rattle.pv_json_grammar.specs.Strings.{string};
 ghost use Rattle.pv_json_grammar.specs.Values.{document};
 ghost use Rattle.pv_json_grammar.specs.SpelledStrings.{SpellsString};
 ghost use Rattle.pv_json_grammar.specs.Spells.{SpellsDocument};
+ghost use Rattle.pv_json_grammar.specs.DocumentTrees.{IsDocumentTree};
 
 /// What spells a text is read as that text, whatever follows.
 pub fn strings_are_read()
@@ -31,4 +34,30 @@ pub fn documents_are_read()
 /// No bytes spell two trees.
 pub fn one_tree()
     ensures { (n : ℕ) (bs : List ℕ) (t u : Tree) → SpellsDocument n bs t → SpellsDocument n bs u → t ≡ u }
+{}
+
+/// A text in quotes, with its escapes, spells that text.
+pub fn quoted_is_spelled()
+    ensures { (text : List ℕ) → IsUtf8 text → SpellsString (quoted text) text }
+{}
+
+/// The compact JSON of a tree that a document can spell spells that tree.
+pub fn compact_is_read()
+    ensures { (n : ℕ) (t : Tree) → IsDocumentTree n t → SpellsDocument n (compact t) t }
+{}
+
+/// What a document spells is a tree that a document can spell.
+pub fn documents_are_trees()
+    ensures { (n : ℕ) (bs : List ℕ) (t : Tree) → SpellsDocument n bs t → IsDocumentTree n t }
+{}
+
+/// The compact JSON of a tree that was read is read as that tree.
+pub fn compact_round_trip()
+    ensures { (n : ℕ) (bs : List ℕ) (t : Tree) → document n bs ≡ Ok t → document n (compact t) ≡ Ok t }
+{}
+
+/// The compact JSON of a tree is one line, and holds no control character.
+pub fn compact_has_no_line_feed()
+    ensures line { (n : ℕ) (t : Tree) → IsDocumentTree n t → All (λ b. b ≢ 10) (compact t) }
+    ensures printed { (n : ℕ) (t : Tree) → IsDocumentTree n t → All (λ b. 32 ≤ b) (compact t) }
 {}

@@ -4,5 +4,7 @@
 mod laws;
 
 pub use laws::{
-    documents_are_read, documents_are_spelled, one_tree, strings_are_read, strings_are_spelled,
+    compact_has_no_line_feed, compact_is_read, compact_round_trip, documents_are_read,
+    documents_are_spelled, documents_are_trees, one_tree, quoted_is_spelled, strings_are_read,
+    strings_are_spelled,
 };

@@ -1,2 +1,7 @@
 pub mod Completeness
 pub mod Soundness
+pub mod Runs
+pub mod Exponents
+pub mod WholeValue
+pub mod WholeLaws
+pub mod WrittenIntegers

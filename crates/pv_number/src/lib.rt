@@ -1,10 +1,18 @@
 //! The spellings of JSON numbers.
 #![tactic(auto)]
 
+mod decimal;
+mod exact;
+mod exponent;
 mod laws;
 mod lexeme;
 mod scanning;
+mod value;
+mod written;
 
-pub use laws::numbers_are_scanned;
+pub use exact::Whole;
+pub use laws::{numbers_are_scanned, wholes_are_one};
 pub use lexeme::{Lexeme, LexemeFault};
 pub use scanning::number_len;
+pub use value::{is_integer, whole};
+pub use written::integer;

@@ -19,7 +19,7 @@ fn digits(s: &[u8]) -> usize
     n
 }
 
-fn begins(byte: u8, s: &[u8]) -> bool
+pub(crate) fn begins(byte: u8, s: &[u8]) -> bool
     ensures { result ≡ spec.begins byte s.now }
 {
     match s {

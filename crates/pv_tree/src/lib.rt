@@ -5,12 +5,14 @@ mod building;
 mod copying;
 mod location;
 mod making;
+mod plain;
 mod row;
 mod tree;
 mod value;
 
 pub use building::Building;
 pub use location::{Loc, Step};
+pub use plain::plain_value;
 pub use row::Row;
 pub use tree::{Members, Tree, Trees};
 pub use value::{AtomKind, Entries, Named, Names, Value, Values};

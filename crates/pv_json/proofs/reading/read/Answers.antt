@@ -1,5 +1,6 @@
 use Rattle.std.proofs.Common.{◌≡◌, ℕ, ◌-◌, ◌+◌, ◌<◌, ◌≤◌, ◌≢◌, List, length, Err, arith, rules}
 use Rattle.pv_json_grammar.specs.Values.{document}
+use Rattle.pv_json.specs.declared.reading.TheConstants.{NESTING}
 use Rattle.pv_json.proofs.Left.{document_left}
 use Rattle.pv_json.proofs.reading.read.Goals as goal
 
@@ -11,7 +12,7 @@ fault nesting bs left e some =
     (left, e, omega (arith, some), omega (arith, within))
 
 pub overflow_sub-result : goal.overflow_sub-result
-overflow_sub-result c = document_left 128 c.args.input.now c.in-Err-Fault.left (search rules)
+overflow_sub-result c = document_left NESTING c.args.input.now c.in-Err-Fault.left (search rules)
 
 pub returns-in-Err-Fault-clause-fault : goal.returns-in-Err-Fault-clause-fault
-returns-in-Err-Fault-clause-fault c = fault 128 c.args.input.now c.in-Err-Fault.left (search rules) (search rules)
+returns-in-Err-Fault-clause-fault c = fault NESTING c.args.input.now c.in-Err-Fault.left (search rules) (search rules)

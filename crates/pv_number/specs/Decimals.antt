@@ -1,0 +1,28 @@
+-- A number taken apart, as the code holds it.
+use Rattle.std.specs.Prelude.{ℕ, zero, suc, ◌+◌, ◌*◌, List, ◌++◌, slice_index_or, length, ℤ, pos, ◌-ℤ◌, neg_ℤ, ◌^◌}
+use Rattle.std.specs.Int.{int_max, int_min}
+use Rattle.pv_number.specs.ExactNumber.{Number, signed, natural, digit}
+use Rattle.pv_number.specs.declared.decimal.Decimal.{Decimal}
+use Rattle.pv_number.specs.declared.decimal.Exponent.{Exponent}
+
+-- before the point and behind it
+abbrev pub digits : Decimal → List ℕ
+digits d = d.whole.now ++ d.fraction.now
+
+abbrev pub exponent_of : Exponent → ℤ
+exponent_of e = signed e.negative (natural e.digits.now)
+
+abbrev pub number_of : Decimal → Number
+number_of d = record { significand = signed d.negative (natural (digits d)); exponent = exponent_of d.exponent -ℤ pos (length d.fraction.now) }
+
+-- the number that n digits form from place s on, where zeros stand behind the last digit
+unfoldable pub run : List ℕ → ℕ → ℕ → ℕ
+run ds s zero = 0
+run ds s (suc n) = run ds s n * 10 + digit (slice_index_or ds (s + n) 0)
+
+-- past this an exponent decides alone, since no list of digits is as long
+abbrev pub far : ℕ
+far = 2 ^ 100
+
+unfoldable pub capped : ℤ → ℤ
+capped x = int_max (neg_ℤ (pos far)) (int_min x (pos far))
