@@ -3,3 +3,14 @@ pub mod Joins
 pub mod Objects
 pub mod Levels
 pub mod Written
+pub mod Inside
+pub mod Lines
+pub mod ValueLines
+pub mod TreeLines
+pub mod Codes
+pub mod Same
+pub mod ValueKinds
+pub mod Differ
+pub mod Holding
+pub mod Sound
+pub mod TreeNumbers

@@ -4,3 +4,4 @@ pub mod Lists
 pub mod Compact
 pub mod Notation
 pub mod Locations
+pub mod Numbers
