@@ -7,6 +7,6 @@ mod trees;
 mod values;
 
 pub use locations::write_loc;
-pub use strings::{write_bytes_hex, write_quoted};
+pub use strings::{write_all_escaped, write_bytes_hex, write_quoted};
 pub use trees::write_tree;
 pub use values::write_value;
