@@ -5,6 +5,7 @@ mod counts;
 mod faults;
 mod grade;
 mod kind;
+mod laws;
 mod messages;
 mod outcome;
 mod pieces;
@@ -17,6 +18,10 @@ pub use counts::add_counts;
 pub use faults::{Faults, LineError};
 pub use grade::Grade;
 pub use kind::Kind;
+pub use laws::part_by_part;
 pub use messages::{write_message, write_type};
 pub use outcome::Outcome;
 pub use printing::write_faults;
+
+#[cfg(test)]
+mod tests;
