@@ -53,8 +53,9 @@ fn write_escaped(b: u8, out: &mut ByteBuf) -> Result<(), Memory>
     out.push(b)
 }
 
+/// Appends a text as it stands between the quotes of a JSON string. After a refusal `out` may hold a part of it.
 #[tactic(auto, using(crate::proofs::Fronts::fronts))]
-fn write_all_escaped(text: &[u8], out: &mut ByteBuf) -> Result<(), Memory>
+pub fn write_all_escaped(text: &[u8], out: &mut ByteBuf) -> Result<(), Memory>
     ensures ok { OnOk result (out.new ≡ out.old ++ flat_map escaped text.now) }
     ensures err { OnErr result (IsFront out.old out.new) }
 {

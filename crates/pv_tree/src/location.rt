@@ -32,7 +32,7 @@ impl Model for Loc {
 }
 
 impl Loc {
-    ghost use Rattle.std.specs.Prelude.{◌≡◌, ◌<◌, [], ◌∷◌, ◌++◌, length, slice_get, OnOk, OnErr, OnSome};
+    ghost use Rattle.std.specs.Prelude.{◌≡◌, ◌<◌, [], ◌∷◌, ◌++◌, length, drop, slice_get, OnOk, OnErr, OnSome};
     ghost use Rattle.std.specs.Option.{option_copied};
 
     pub fn new(alloc: Global) -> Loc
@@ -49,6 +49,24 @@ impl Loc {
     {
         self.steps.push(step)?;
         Ok(())
+    }
+
+    /// Puts a step before all others.
+    pub fn push_front(&mut self, step: Step) -> Result<(), Memory>
+        ensures ok { OnOk result (self.new ≡ step ∷ self.old) }
+        ensures err { OnErr result (self.new ≡ self.old) }
+    {
+        self.steps.insert(0, step)?;
+        Ok(())
+    }
+
+    /// Drops the first step, where there is one.
+    pub fn drop_front(&mut self)
+        ensures { self.new ≡ drop 1 self.old }
+    {
+        if !self.steps.is_empty() {
+            let _first = self.steps.remove(0);
+        }
     }
 
     pub fn len(&self) -> usize

@@ -1,0 +1,8 @@
+use Rattle.std.proofs.Common.{◌≡◌, ◌++◌, take}
+use Rattle.std.specs.List.{flat_map}
+use Rattle.pv_notation.specs.Strings.{escaped}
+use Rattle.pv_fault.specs.Wordings.{piece_text}
+use Rattle.pv_fault.proofs.printing.write_escaped_pieces.Given as goal
+
+abbrev pub invariant-loop-piece : goal.invariant-loop-piece
+invariant-loop-piece l = l.out ≡ l.fn.out ++ flat_map escaped (flat_map piece_text (take l.piece-index l.pieces))

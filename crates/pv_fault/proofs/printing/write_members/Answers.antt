@@ -1,0 +1,12 @@
+use Rattle.std.proofs.Common.{rules, map, ap, sym, ◌∙◌, ◌++◌}
+use Rattle.std.proofs.lemmas.Simd.{map-map}
+use Rattle.pv_notation.specs.Lists.{joined}
+use Rattle.pv_notation.specs.Compact.{member_text}
+use Rattle.pv_notation.proofs.Joins.{all_joined}
+use Rattle.pv_fault.specs.Wordings.{key_and_json}
+use Rattle.pv_fault.proofs.printing.write_members.Goals as goal
+
+pub returns-clause-ok : goal.returns-clause-ok
+returns-clause-ok c =
+    all_joined (λ m. member_text (key_and_json m)) _ _ _ c.args.members.now c.in-Some.rest.now c.in-Some.first.now c.loop-member.member-index (search rules) (search rules) c.loop-member.invariant c.loop-member-test.false
+    ∙ ap (λ ms. c.args.out.now ++ joined ms) (sym (map-map member_text key_and_json c.args.members.now))

@@ -1,0 +1,6 @@
+pub mod Grades
+pub mod Counts
+pub mod Under
+pub mod Table
+pub mod Wordings
+pub mod Errors

@@ -1,0 +1,93 @@
+use crate::kind::Kind;
+use crate::steps::put_under;
+use pv_text::Memory;
+use pv_tree::{Loc, Step, Tree};
+use std::alloc::Global;
+use std::marker::Model;
+
+/// One error: what was wrong, where, and with which input.
+#[derive(Drop)]
+pub struct LineError {
+    pub kind: Kind,
+    pub loc: Loc,
+    pub input: Tree,
+}
+
+/// Errors in the order in which they came. It keeps its allocator.
+#[derive(Drop)]
+pub struct Faults {
+    errors: Vec<LineError>,
+}
+
+impl Model for Faults {
+    ghost use Rattle.std.specs.Prelude.{List};
+    ghost use Rattle.pv_fault.specs.declared.faults.LineError.{LineError};
+    ghost use Rattle.pv_tree.specs.contracts.Tree as tree;
+    ghost use Rattle.std.specs.Coded.{codes};
+
+    ghost Value = { List LineError };
+
+    ghost coded = { Prim.hlevel (codes, tree.the_row.coded) };
+
+    ghost view = { λ f. f.errors.items };
+}
+
+impl Faults {
+    ghost use Rattle.std.specs.Prelude.{◌≡◌, ◌≤◌, ◌<◌, [], ◌∷◌, ◌++◌, length, take, slice_get, OnOk, OnErr, OnSome};
+    ghost use Rattle.std.specs.Option.{option_copied};
+    ghost use Rattle.pv_fault.specs.Under.{all_under_from};
+
+    pub fn new(alloc: Global) -> Faults
+        ensures { result ≡ [] }
+    {
+        Faults {
+            errors: Vec::new(alloc),
+        }
+    }
+
+    pub fn len(&self) -> usize
+        ensures { result ≡ length self.now }
+    {
+        self.errors.len()
+    }
+
+    /// `None` exactly where `place` is not below the length.
+    pub fn get(&self, place: usize) -> Option<&LineError>
+        ensures value { option_copied result ≡ slice_get self.now place }
+        ensures within { OnSome result (place < length self.now) }
+    {
+        self.errors.get(place)
+    }
+
+    pub fn as_slice(&self) -> &[LineError]
+        ensures { result.now ≡ self.now }
+    {
+        self.errors.as_slice()
+    }
+
+    pub fn push(&mut self, e: LineError) -> Result<(), Memory>
+        ensures ok { OnOk result (self.new ≡ self.old ++ e ∷ []) }
+        ensures err { OnErr result (self.new ≡ self.old) }
+    {
+        self.errors.push(e)?;
+        Ok(())
+    }
+
+    /// Keeps the first `len` errors.
+    pub fn cut(&mut self, len: usize)
+        requires { len ≤ length self.old }
+        ensures { self.new ≡ take len self.old }
+    {
+        self.errors.truncate(len);
+    }
+
+    /// Puts a step in front of the location of each error from the place `from` on.
+    pub fn under(&mut self, from: usize, step: Step) -> Result<(), Memory>
+        requires { from ≤ length self.old }
+        ensures ok { OnOk result (self.new ≡ all_under_from from step self.old) }
+        ensures err { OnErr result (self.new ≡ self.old) }
+    {
+        let alloc = *self.errors.allocator();
+        put_under(alloc, &mut self.errors[from..], &step)
+    }
+}
