@@ -4,3 +4,4 @@ pub mod Runs
 pub mod Exponents
 pub mod WholeValue
 pub mod WholeLaws
+pub mod NumberOrder

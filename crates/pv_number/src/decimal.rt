@@ -143,6 +143,18 @@ impl Decimal<'_> {
         }
     }
 
+    /// The digit at `place` behind the first `skipped` ones, and 0 behind the last.
+    pub(crate) fn digit_behind(&self, skipped: usize, place: usize) -> u8
+        requires { skipped ≤ length (digits self.now) }
+        ensures { result ≡ spec.digit (slice_index_or (digits self.now) (skipped + place) 0) }
+    {
+        if place < self.len() - skipped {
+            self.digit(skipped + place)
+        } else {
+            0
+        }
+    }
+
     /// How many zeros stand in front of the other digits.
     #[tactic(auto, using(crate::proofs::Runs::zeros_more, crate::proofs::Runs::run_none))]
     pub(crate) fn leading_zeros(&self) -> usize

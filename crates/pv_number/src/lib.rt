@@ -1,6 +1,7 @@
 //! The spellings of JSON numbers.
 #![tactic(auto)]
 
+mod comparing;
 mod decimal;
 mod exact;
 mod exponent;
@@ -9,6 +10,7 @@ mod lexeme;
 mod scanning;
 mod value;
 
+pub use comparing::compare;
 pub use exact::Whole;
 pub use laws::{numbers_are_scanned, wholes_are_one};
 pub use lexeme::{Lexeme, LexemeFault};
