@@ -5,3 +5,4 @@ pub mod Exponents
 pub mod WholeValue
 pub mod WholeLaws
 pub mod NumberOrder
+pub mod NumberLaws

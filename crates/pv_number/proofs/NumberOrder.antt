@@ -1,16 +1,17 @@
 -- The order of two numbers, by their signs, their first digits and their digits.
-use Rattle.std.proofs.Common.{◌≡◌, ℕ, zero, suc, ◌+◌, ◌-◌, ◌*◌, ◌^◌, ◌<◌, ◌≤◌, Bool, true, false, cond, List, length, get_or, ℤ, pos, negsuc, neg_ℤ, ◌+ℤ◌, ◌-ℤ◌, ◌*ℤ◌, ◌≤ℤ◌, ◌<ℤ◌, refl, sym, ap, ◌∙◌, subst, inl, inr, arith, length-append}
+use Rattle.std.proofs.Common.{◌≡◌, ℕ, zero, suc, ◌+◌, ◌-◌, ◌*◌, ◌^◌, ◌<◌, ◌≤◌, Bool, true, false, cond, List, length, get_or, ℤ, pos, negsuc, neg_ℤ, ◌+ℤ◌, ◌-ℤ◌, ◌*ℤ◌, ◌≤ℤ◌, ◌<ℤ◌, refl, sym, ap, ◌∙◌, subst, inl, inr, arith, length-append, append-nil, [], ◌++◌, take, drop}
+use Rattle.std.proofs.lemmas.List.{take_rest}
 use Rattle.std.proofs.Math.Nat.{pow-le-pow_right, one-le-pow, mul-pos, mul-le-mul_right}
 use Rattle.std.proofs.lemmas.Int.{ints, clamps}
-use Rattle.std.proofs.lemmas.Bool.{ne_eqb}
-use Rattle.std.specs.Prelude.{unsigned_abs, ◌⊎◌, ◌==◌}
+use Rattle.std.proofs.lemmas.Bool.{ne_eqb, le-ltb}
+use Rattle.std.specs.Prelude.{unsigned_abs, int_lt, ◌⊎◌, ◌==◌}
 use Rattle.std.specs.Int.{int_min}
 use Rattle.std.specs.Ordering.{MatchOrdering, int_cmp}
 use Rattle.std.specs.Cmp.{int_cmp_is}
 use Rattle.std.specs.declared.cmp.Ordering.{Ordering}
 use Rattle.std.specs.declared.cmp.Ordering.TheVariants.{Less, Equal, Greater}
 use Rattle.pv_number.specs.ExactNumber.{Number, signed, natural, digit}
-use Rattle.pv_number.specs.NumberEquality.{least_exponent, scaled, number_cmp}
+use Rattle.pv_number.specs.NumberEquality.{least_exponent, scaled, number_cmp, int_number}
 use Rattle.pv_number.specs.declared.decimal.Decimal.{Decimal}
 use Rattle.pv_number.specs.Decimals.{capped, far, run, digits, exponent_of, number_of, sign_of, Ranks}
 use Rattle.pv_number.proofs.WholeValue.{signed_times}
@@ -243,3 +244,20 @@ some_signed d h = by (natural (digits d)) refl
     by : (n : ℕ) → natural (digits d) ≡ n → 0 < natural (digits d)
     by zero e = absurd (h (rw e refl))
     by (suc n) e = omega arith
+
+-- ---- a whole number, by its digits
+
+pub signed_int : (n : ℤ) → signed (int_lt n (pos 0)) (unsigned_abs n) ≡ n
+signed_int (pos a) = rw (le-ltb a 0 (omega arith)) refl
+signed_int (negsuc a) = refl
+
+pub integer_of : (minus : Bool) (ds : List ℕ) (e : ℤ) → e ≡ pos 0 → (let x : Number = record { significand = signed minus (natural (ds ++ [])); exponent = e -ℤ pos 0 } in x) ≡ int_number (signed minus (natural ds))
+integer_of minus ds e flat = rw (append-nil ds, flat) refl
+
+pub int_order : (r : Ordering) (x y : Number) (a d : Decimal) → r ≡ number_cmp (number_of a) (number_of d) → number_of a ≡ x → number_of d ≡ y → r ≡ number_cmp x y
+int_order r x y a d e p q = e ∙ ap (λ y. number_cmp y (number_of d)) p ∙ ap (number_cmp x) q
+
+pub int_value : (x : Number) (n z : ℤ) (buffer : List ℕ) (start size : ℕ) → z ≡ n → length buffer ≡ 39 → x ≡ int_number (signed (int_lt z (pos 0)) (natural (take (39 - start) (drop start buffer)))) → natural (drop start buffer) ≡ size → size ≡ unsigned_abs z → x ≡ int_number n
+int_value x n z buffer start size same len is digits sized =
+    let all : take (39 - start) (drop start buffer) ≡ drop start buffer = ap (λ k. take (k - start) (drop start buffer)) (sym len) ∙ take_rest buffer start in
+    is ∙ ap (λ t. int_number (signed (int_lt z (pos 0)) (natural t))) all ∙ ap (λ k. int_number (signed (int_lt z (pos 0)) k)) (digits ∙ sized) ∙ ap int_number (signed_int z ∙ same)

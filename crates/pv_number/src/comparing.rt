@@ -1,11 +1,11 @@
 //! The order of the numbers that lexemes stand for.
 
-use crate::decimal::{Decimal, Exponent};
+use crate::decimal::Decimal;
 use crate::exponent::exponent_difference;
 use crate::lexeme::Lexeme;
 use std::cmp::Ordering;
 
-ghost use Rattle.std.specs.Prelude.{◌≡◌, ◌+◌, ◌-◌, ◌*◌, ◌^◌, ◌<◌, ◌≤◌, ◌↔◌, ℕ, pos, ◌+ℤ◌, ◌-ℤ◌, length};
+ghost use Rattle.std.specs.Prelude.{◌≡◌, ◌+◌, ◌-◌, ◌*◌, ◌^◌, ◌<◌, ◌≤◌, ◌↔◌, ℕ, drop, pos, ◌+ℤ◌, ◌-ℤ◌, length};
 ghost use Rattle.pv_number.specs.ExactNumber as spec;
 ghost use Rattle.pv_number.specs.NumberEquality.{IsSameNumber, int_number, number_cmp};
 ghost use Rattle.pv_number.specs.Decimals.{Ranks, capped, digits, exponent_of, number_of, run, sign_of};
@@ -103,8 +103,38 @@ fn compare_decimals(a: &Decimal, b: &Decimal) -> Ordering
 }
 
 /// Compares the numbers of two lexemes, however they are written.
+#[tactic(auto, using(crate::proofs::NumberLaws::equal_is_same, crate::proofs::NumberLaws::same_is_equal))]
 pub fn compare(a: &Lexeme, b: &Lexeme) -> Ordering
-    ensures { result ≡ number_cmp (spec.number a.now) (spec.number b.now) }
+    ensures order { result ≡ number_cmp (spec.number a.now) (spec.number b.now) }
+    ensures equal { (result ≡ Ordering.Equal) ↔ IsSameNumber (spec.number a.now) (spec.number b.now) }
 {
     compare_decimals(&Decimal::of(a), &Decimal::of(b))
+}
+
+/// Writes the decimal digits of `value` at the end of the buffer, and answers where they begin.
+fn write_digits(value: u128, buffer: &mut [u8]) -> usize
+    requires { value < 10 ^ length buffer.old }
+    ensures within { result ≤ length buffer.new }
+    ensures value { spec.natural (drop result buffer.new) ≡ value }
+{
+    let mut rest = value;
+    let mut start = buffer.len();
+    while rest > 0 {
+        start -= 1;
+        buffer[start] = b'0' + (rest % 10) as u8;
+        rest /= 10;
+    }
+    start
+}
+
+/// Compares the number of a lexeme with a whole number.
+pub fn compare_int(a: &Lexeme, n: i128) -> Ordering
+    ensures order { result ≡ number_cmp (spec.number a.now) (int_number n) }
+    ensures equal { (result ≡ Ordering.Equal) ↔ IsSameNumber (spec.number a.now) (int_number n) }
+{
+    // 39 digits are enough for 128 bits
+    let mut buffer = [b'0'; 39];
+    let start = write_digits(n.unsigned_abs(), &mut buffer);
+    let int = Decimal::integer(n < 0, &buffer[start..]);
+    compare_decimals(&Decimal::of(a), &int)
 }

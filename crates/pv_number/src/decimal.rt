@@ -3,6 +3,7 @@
 ghost use Rattle.std.specs.Prelude.{◌≡◌, ◌+◌, ◌-◌, ◌*◌, ◌^◌, ◌<◌, ◌≤◌, pos, SomeIff, length, take, drop, slice_index_or};
 ghost use Rattle.std.specs.List.{position_or_len};
 ghost use Rattle.pv_number.specs.ExactNumber as spec;
+ghost use Rattle.pv_number.specs.NumberEquality.{int_number};
 ghost use Rattle.pv_number.specs.Decimals.{digits, exponent_of, number_of, run};
 
 use crate::lexeme::Lexeme;
@@ -122,6 +123,18 @@ impl Decimal<'_> {
                 negative: begins(b'-', exponent),
                 digits: without_sign(exponent),
             },
+        }
+    }
+
+    /// The whole number that the digits form.
+    pub(crate) fn integer(negative: bool, digits: &[u8]) -> Decimal<'_>
+        ensures { number_of result ≡ int_number (spec.signed negative (spec.natural digits.now)) }
+    {
+        Decimal {
+            negative,
+            whole: digits,
+            fraction: &[],
+            exponent: Exponent::zero(),
         }
     }
 
