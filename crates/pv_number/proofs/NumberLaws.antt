@@ -128,6 +128,7 @@ value_tells a n = (to a.significand a.exponent, from a.significand a.exponent)
     to : (m e : ℤ) → IsProduct m e n → IsSameNumber (at m e) (int_number n)
     to m (pos e) is = same_at (at m (pos e)) (int_number n) (pos 0) (omega (arith, ints)) (omega (arith, ints)) (above_zero m e ∙ sym is ∙ sym (int_above n))
     to m (negsuc e) is = same_at (at m (negsuc e)) (int_number n) (negsuc e) (omega (arith, ints)) (omega (arith, ints)) (under_zero m e ∙ is ∙ sym (int_under n e))
+
     from : (m e : ℤ) → IsSameNumber (at m e) (int_number n) → IsProduct m e n
     from m (pos e) is = sym (int_above n) ∙ sym (scaled_same (at m (pos e)) (int_number n) (pos 0) (omega (arith, ints)) (omega (arith, ints)) is) ∙ above_zero m e
     from m (negsuc e) is = sym (under_zero m e) ∙ scaled_same (at m (negsuc e)) (int_number n) (negsuc e) (omega (arith, ints)) (omega (arith, ints)) is ∙ int_under n e

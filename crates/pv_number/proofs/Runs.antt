@@ -154,9 +154,9 @@ written_more buf value rest s within below is =
     let p = 10 ^ (length buf - suc s) in
     let parts : rest ≡ rest / 10 * 10 + rest % 10 = omega arith in
     let split : rest * 10 ^ (length buf - suc s) ≡ rest / 10 * (10 ^ (length buf - suc s) * 10) + rest % 10 * 10 ^ (length buf - suc s) =
-        ap (λ k. k * 10 ^ (length buf - suc s)) parts ∙ add-mul (rest / 10 * 10) (rest % 10) (10 ^ (length buf - suc s)) ∙ ap (λ k. k + rest % 10 * 10 ^ (length buf - suc s)) (mul_assoc (rest / 10) 10 (10 ^ (length buf - suc s)) ∙ ap (λ k. rest / 10 * k) (mul_comm 10 (10 ^ (length buf - suc s)))) in
+    ap (λ k. k * 10 ^ (length buf - suc s)) parts ∙ add-mul (rest / 10 * 10) (rest % 10) (10 ^ (length buf - suc s)) ∙ ap (λ k. k + rest % 10 * 10 ^ (length buf - suc s)) (mul_assoc (rest / 10) 10 (10 ^ (length buf - suc s)) ∙ ap (λ k. rest / 10 * k) (mul_comm 10 (10 ^ (length buf - suc s)))) in
     let whole : natural (drop s (set buf s (48 + rest % 10))) ≡ rest % 10 * 10 ^ (length buf - suc s) + natural (drop (suc s) buf) =
-        ap natural tail ∙ natural_cons (48 + rest % 10) (drop (s + 1) buf) ∙ ap (λ k. digit (48 + rest % 10) * 10 ^ length (drop k buf) + natural (drop k buf)) (add-one s) ∙ rw (one, behind) refl in
+    ap natural tail ∙ natural_cons (48 + rest % 10) (drop (s + 1) buf) ∙ ap (λ k. digit (48 + rest % 10) * 10 ^ length (drop k buf) + natural (drop k buf)) (add-one s) ∙ rw (one, behind) refl in
     let less : 10 ^ suc s ≡ 10 ^ s * 10 = pow-suc 10 s in
     (omega arith, omega arith, rw (size, up, pow-suc 10 (length buf - suc s), whole) (omega arith))
 

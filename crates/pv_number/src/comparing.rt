@@ -1,14 +1,14 @@
 //! The order of the numbers that lexemes stand for.
 
-use crate::decimal::Decimal;
-use crate::exponent::exponent_difference;
-use crate::lexeme::Lexeme;
-use std::cmp::Ordering;
-
 ghost use Rattle.std.specs.Prelude.{◌≡◌, ◌+◌, ◌-◌, ◌*◌, ◌^◌, ◌<◌, ◌≤◌, ◌↔◌, ℕ, drop, pos, ◌+ℤ◌, ◌-ℤ◌, length};
 ghost use Rattle.pv_number.specs.ExactNumber as spec;
 ghost use Rattle.pv_number.specs.NumberEquality.{IsSameNumber, int_number, number_cmp};
 ghost use Rattle.pv_number.specs.Decimals.{Ranks, capped, digits, exponent_of, number_of, run, sign_of};
+
+use crate::decimal::Decimal;
+use crate::exponent::exponent_difference;
+use crate::lexeme::Lexeme;
+use std::cmp::Ordering;
 
 #[tactic(auto, using(crate::proofs::NumberOrder::none_kept, crate::proofs::NumberOrder::some_kept))]
 fn sign(decimal: &Decimal) -> i8
@@ -28,10 +28,8 @@ fn sign(decimal: &Decimal) -> i8
 fn compare_digits(a: &Decimal, skipped_a: usize, b: &Decimal, skipped_b: usize) -> Ordering
     requires a_within { skipped_a ≤ length (digits a.now) }
     requires b_within { skipped_b ≤ length (digits b.now) }
-    ensures {
-        (n : ℕ) → length (digits a.now) - skipped_a ≤ n → length (digits b.now) - skipped_b ≤ n →
-            Ranks result (run (digits a.now) skipped_a n) (run (digits b.now) skipped_b n)
-    }
+    ensures { (n : ℕ) → length (digits a.now) - skipped_a ≤ n → length (digits b.now) - skipped_b ≤ n →
+        Ranks result (run (digits a.now) skipped_a n) (run (digits b.now) skipped_b n) }
 {
     let count = (a.len() - skipped_a).max(b.len() - skipped_b);
     for place in 0..count {
@@ -51,10 +49,8 @@ fn compare_digits(a: &Decimal, skipped_a: usize, b: &Decimal, skipped_b: usize) 
 fn first_difference(a: &Decimal, skipped_a: usize, b: &Decimal, skipped_b: usize) -> i128
     requires a_within { skipped_a ≤ length (digits a.now) }
     requires b_within { skipped_b ≤ length (digits b.now) }
-    ensures {
-        result ≡
-            capped (exponent_of a.now.exponent -ℤ exponent_of b.now.exponent) +ℤ pos (length a.now.whole.now) -ℤ pos skipped_a +ℤ pos skipped_b -ℤ pos (length b.now.whole.now)
-    }
+    ensures { result ≡
+        capped (exponent_of a.now.exponent -ℤ exponent_of b.now.exponent) +ℤ pos (length a.now.whole.now) -ℤ pos skipped_a +ℤ pos skipped_b -ℤ pos (length b.now.whole.now) }
 {
     let written = exponent_difference(&a.exponent, &b.exponent);
     written + a.whole.len() as i128 - skipped_a as i128 + skipped_b as i128 - b.whole.len() as i128
@@ -64,10 +60,8 @@ fn first_difference(a: &Decimal, skipped_a: usize, b: &Decimal, skipped_b: usize
 fn compare_sizes(a: &Decimal, b: &Decimal) -> Ordering
     requires a_some { 0 < spec.natural (digits a.now) }
     requires b_some { 0 < spec.natural (digits b.now) }
-    ensures {
-        (p q : ℕ) → pos p -ℤ pos q ≡ (number_of a.now).exponent -ℤ (number_of b.now).exponent →
-            Ranks result (spec.natural (digits a.now) * 10 ^ p) (spec.natural (digits b.now) * 10 ^ q)
-    }
+    ensures { (p q : ℕ) → pos p -ℤ pos q ≡ (number_of a.now).exponent -ℤ (number_of b.now).exponent →
+        Ranks result (spec.natural (digits a.now) * 10 ^ p) (spec.natural (digits b.now) * 10 ^ q) }
 {
     let skipped_a = a.leading_zeros();
     let skipped_b = b.leading_zeros();

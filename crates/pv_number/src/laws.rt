@@ -1,7 +1,5 @@
 //! What holds of the grammar of numbers and of scanning.
 
-use std::cmp::Ordering;
-
 ghost use Rattle.std.specs.Prelude.{◌≡◌, ◌≤◌, ◌++◌, ◌↔◌, ℕ, ℤ, List, Ok, length, take, IsTrue};
 ghost use Rattle.pv_number.specs.Scanning.{number_len, is_number};
 ghost use Rattle.pv_number.specs.Grammar.{IsNumber, Stops};
@@ -10,6 +8,8 @@ ghost use Rattle.pv_number.specs.NumberEquality.{IsSameNumber, int_number, numbe
 ghost use Rattle.std.specs.Cmp.{IsTotalOrder};
 ghost use Rattle.std.specs.Ordering.{int_cmp};
 ghost use Rattle.pv_number.specs.declared.exact.Whole.{Whole};
+
+use std::cmp::Ordering;
 
 /// The scanner goes over a number of the grammar to its end, and goes over nothing else.
 pub fn numbers_are_scanned()
@@ -35,5 +35,4 @@ pub fn numbers_are_ordered()
     ensures transitive { (a b c : Number) → IsSameNumber a b → IsSameNumber b c → IsSameNumber a c }
     ensures whole { (m n : ℤ) → number_cmp (int_number m) (int_number n) ≡ int_cmp m n }
     ensures value { (a : Number) (n : ℤ) → (HasValue a n ↔ IsSameNumber a (int_number n)) }
-{
-}
+{}

@@ -8,6 +8,8 @@ mod exponent;
 mod laws;
 mod lexeme;
 mod scanning;
+#[cfg(test)]
+mod tests;
 mod value;
 
 pub use comparing::{compare, compare_int};
