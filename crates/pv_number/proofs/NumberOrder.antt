@@ -1,19 +1,19 @@
 -- The order of two numbers, by their signs, their first digits and their digits.
-use Rattle.std.proofs.Common.{◌≡◌, ℕ, zero, suc, ◌+◌, ◌-◌, ◌*◌, ◌^◌, ◌<◌, ◌≤◌, Bool, true, false, cond, List, length, get_or, ℤ, pos, negsuc, neg_ℤ, ◌+ℤ◌, ◌-ℤ◌, ◌*ℤ◌, ◌≤ℤ◌, ◌<ℤ◌, refl, sym, ap, ◌∙◌, subst, inl, inr, arith, length-append, append-nil, [], ◌++◌, take, drop}
+use Rattle.std.proofs.Common.{◌≡◌, ℕ, zero, suc, ◌+◌, ◌-◌, ◌*◌, ◌^◌, ◌<◌, ◌≤◌, Bool, true, false, cond, List, length, get_or, ℤ, pos, negsuc, neg_ℤ, ◌+ℤ◌, ◌-ℤ◌, ◌≤ℤ◌, ◌<ℤ◌, refl, sym, ap, ◌∙◌, subst, inl, inr, arith, length-append, append-nil, [], ◌++◌, take, drop}
 use Rattle.std.proofs.lemmas.List.{take_rest}
 use Rattle.std.proofs.Math.Nat.{pow-le-pow_right, one-le-pow, mul-pos, mul-le-mul_right}
 use Rattle.std.proofs.lemmas.Int.{ints, clamps}
 use Rattle.std.proofs.lemmas.Bool.{ne_eqb, le-ltb}
 use Rattle.std.specs.Prelude.{unsigned_abs, int_lt, ◌⊎◌, ◌==◌}
 use Rattle.std.specs.Int.{int_min}
-use Rattle.std.specs.Ordering.{MatchOrdering, int_cmp}
+use Rattle.std.specs.Ordering.{MatchOrdering}
 use Rattle.std.specs.Cmp.{int_cmp_is}
 use Rattle.std.specs.declared.cmp.Ordering.{Ordering}
 use Rattle.std.specs.declared.cmp.Ordering.TheVariants.{Less, Equal, Greater}
 use Rattle.pv_number.specs.ExactNumber.{Number, signed, natural, digit}
 use Rattle.pv_number.specs.NumberEquality.{least_exponent, scaled, number_cmp, int_number}
 use Rattle.pv_number.specs.declared.decimal.Decimal.{Decimal}
-use Rattle.pv_number.specs.Decimals.{capped, far, run, digits, exponent_of, number_of, sign_of, Ranks}
+use Rattle.pv_number.specs.Decimals.{capped, run, digits, exponent_of, number_of, sign_of, Ranks}
 use Rattle.pv_number.proofs.WholeValue.{signed_times}
 use Rattle.pv_number.proofs.Runs.{run_none, run_more, run_past, run_from, run_grows, run_below, run_less, natural_run, run_next}
 

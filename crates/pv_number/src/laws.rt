@@ -1,9 +1,9 @@
 //! What holds of the grammar of numbers and of scanning.
 
-ghost use Rattle.std.specs.Prelude.{◌≡◌, ◌≤◌, ◌++◌, ◌↔◌, ℕ, ℤ, List, Ok, length, take, IsTrue};
+ghost use Rattle.std.specs.Prelude.{◌≡◌, ◌≤◌, ◌++◌, ◌↔◌, ℕ, ℤ, pos, List, Ok, length, take, IsTrue};
 ghost use Rattle.pv_number.specs.Scanning.{number_len, is_number};
 ghost use Rattle.pv_number.specs.Grammar.{IsNumber, Stops};
-ghost use Rattle.pv_number.specs.ExactNumber.{HasValue, IsWhole, Number};
+ghost use Rattle.pv_number.specs.ExactNumber.{HasValue, IsWhole, Number, is_integer, number};
 ghost use Rattle.pv_number.specs.NumberEquality.{IsSameNumber, int_number, number_cmp};
 ghost use Rattle.std.specs.Cmp.{IsTotalOrder};
 ghost use Rattle.std.specs.Ordering.{int_cmp};
@@ -23,6 +23,11 @@ pub fn numbers_are_scanned()
 pub fn wholes_are_one()
     ensures some { (a : Number) → (w : Whole) × IsWhole a w }
     ensures one { (a : Number) (v w : Whole) → IsWhole a v → IsWhole a w → v ≡ w }
+{}
+
+/// A lexeme without a point and an exponent stands for a whole number.
+pub fn integers_are_whole()
+    ensures { (bs : List ℕ) → IsTrue (is_integer bs) → (number bs).exponent ≡ pos 0 }
 {}
 
 /// The order of numbers is a total order, and the numbers that it does not part are equal. Whole

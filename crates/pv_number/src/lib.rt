@@ -14,7 +14,7 @@ mod value;
 
 pub use comparing::{compare, compare_int};
 pub use exact::Whole;
-pub use laws::{numbers_are_ordered, numbers_are_scanned, wholes_are_one};
+pub use laws::{integers_are_whole, numbers_are_ordered, numbers_are_scanned, wholes_are_one};
 pub use lexeme::{Lexeme, LexemeFault};
 pub use scanning::number_len;
 pub use value::{is_integer, whole};

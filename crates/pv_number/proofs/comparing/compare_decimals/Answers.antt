@@ -1,4 +1,4 @@
-use Rattle.std.proofs.Common.{arith, rules}
+use Rattle.std.proofs.Common.{arith}
 use Rattle.std.proofs.lemmas.Int.{ints}
 use Rattle.pv_number.proofs.NumberOrder.{less_by_sign, more_by_sign, both_zero, both_above, both_under}
 use Rattle.pv_number.proofs.comparing.compare_decimals.Goals as goal

@@ -1,4 +1,4 @@
-use Rattle.std.proofs.Common.{arith, rules}
+use Rattle.std.proofs.Common.{arith}
 use Rattle.std.proofs.lemmas.Int.{ints}
 use Rattle.pv_number.proofs.NumberOrder.{sizes_less, sizes_more, sizes_level}
 use Rattle.pv_number.proofs.comparing.compare_sizes.Goals as goal
