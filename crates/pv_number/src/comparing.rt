@@ -96,7 +96,8 @@ fn compare_decimals(a: &Decimal, b: &Decimal) -> Ordering
     }
 }
 
-/// Compares the numbers of two lexemes, however they are written.
+/// Compares the numbers of two lexemes, however they are written: `1e2` and `100.0` are equal.
+/// Takes time in proportion to the two lengths.
 #[tactic(auto, using(crate::proofs::NumberLaws::equal_is_same, crate::proofs::NumberLaws::same_is_equal))]
 pub fn compare(a: &Lexeme, b: &Lexeme) -> Ordering
     ensures order { result ≡ number_cmp (spec.number a.now) (spec.number b.now) }

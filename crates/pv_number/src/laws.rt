@@ -1,4 +1,4 @@
-//! What holds of the grammar of numbers and of scanning.
+//! What holds of the grammar of numbers, of scanning, of exact values and of their order.
 
 ghost use Rattle.std.specs.Prelude.{◌≡◌, ◌≤◌, ◌++◌, ◌↔◌, ℕ, ℤ, pos, List, Ok, length, take, IsTrue};
 ghost use Rattle.pv_number.specs.Scanning.{number_len, is_number};

@@ -1,4 +1,4 @@
-//! The spellings of JSON numbers.
+//! The spellings of JSON numbers, and the numbers that they stand for.
 #![tactic(auto)]
 
 mod comparing;
