@@ -5,3 +5,6 @@ pub mod Exponents
 pub mod WholeValue
 pub mod WholeLaws
 pub mod WrittenIntegers
+pub mod NumberOrder
+pub mod NumberLaws
+pub mod Integers

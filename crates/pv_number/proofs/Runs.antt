@@ -1,8 +1,8 @@
 -- The number that a run of digits forms.
-use Rattle.std.proofs.Common.{◌≡◌, ℕ, zero, suc, ◌+◌, ◌-◌, ◌*◌, ◌^◌, ◌<◌, ◌≤◌, Bool, true, false, cond, List, [], ◌∷◌, length, get_or, refl, sym, ap, ◌∙◌, subst, add-one, add-zero, arith}
-use Rattle.std.proofs.Math.Nat.{pow-suc, pow-zero, one-le-pow, mul-le-mul_right, mul_assoc, mul_comm, add-suc}
-use Rattle.std.proofs.lemmas.List.{get_or_past}
-use Rattle.std.proofs.lemmas.Bool.{leb-true, and_parts}
+use Rattle.std.proofs.Common.{◌≡◌, ℕ, zero, suc, ◌+◌, ◌-◌, ◌*◌, ◌^◌, ◌/◌, ◌%◌, ◌<◌, ◌≤◌, Bool, true, false, cond, List, [], ◌∷◌, length, length-drop, drop, set, get_or, refl, sym, ap, ◌∙◌, subst, add-one, add-zero, arith}
+use Rattle.std.proofs.Math.Nat.{pow-suc, pow-zero, one-le-pow, mul-le-mul_right, mul_assoc, mul_comm, add-mul, add-suc}
+use Rattle.std.proofs.lemmas.List.{get_or_past, drop-set, length-set}
+use Rattle.std.proofs.lemmas.Bool.{leb-true, le-leb, and_parts}
 use Rattle.std.specs.Prelude.{nat_le}
 use Rattle.pv_number.specs.Scanning.{is_digit}
 use Rattle.pv_number.specs.ExactNumber.{digit, natural, natural_after}
@@ -123,3 +123,44 @@ rank_past ds rank h =
 
 pub front_whole : (ds : List ℕ) (place count value : ℕ) → place ≡ count → value < 2 ^ 128 → value ≡ run ds 0 place → (run ds 0 count < 2 ^ 128) × (value ≡ run ds 0 count)
 front_whole ds place count value e h v = let w = v ∙ ap (run ds 0) e in (subst (λ x. x < 2 ^ 128) w h, w)
+
+-- ---- digits written from the last one on
+
+natural_from : (n : ℕ) (ds : List ℕ) → natural_after n ds ≡ n * 10 ^ length ds + natural_after 0 ds
+natural_from n [] = rw (pow-zero 10) (omega arith)
+natural_from n (d ∷ ds) =
+    let here = natural_from (n * 10 + digit d) ds in
+    let first = natural_from (0 * 10 + digit d) ds in
+    let up : 10 ^ suc (length ds) ≡ 10 ^ length ds * 10 = pow-suc 10 (length ds) in
+    let left : (n * 10 + digit d) * 10 ^ length ds ≡ n * (10 ^ length ds * 10) + digit d * 10 ^ length ds = add-mul (n * 10) (digit d) (10 ^ length ds) ∙ ap (λ k. k + digit d * 10 ^ length ds) (mul_assoc n 10 (10 ^ length ds) ∙ ap (λ k. n * k) (mul_comm 10 (10 ^ length ds))) in
+    let right : (0 * 10 + digit d) * 10 ^ length ds ≡ digit d * 10 ^ length ds = ap (λ k. k * 10 ^ length ds) (omega arith) in
+    rw up (omega arith)
+
+pub natural_cons : (d : ℕ) (ds : List ℕ) → natural (d ∷ ds) ≡ digit d * 10 ^ length ds + natural ds
+natural_cons d ds = let none : 0 * 10 + digit d ≡ digit d = omega arith in ap (λ k. natural_after k ds) none ∙ natural_from (digit d) ds
+
+digit_of : (n : ℕ) → n ≤ 9 → digit (48 + n) ≡ n
+digit_of n h = rw (le-leb 48 (48 + n) (omega arith), le-leb (48 + n) 57 (omega arith)) (omega arith)
+
+written_more : (buf : List ℕ) (value rest s : ℕ) → suc s ≤ length buf → rest < 10 ^ suc s → value ≡ rest * 10 ^ (length buf - suc s) + natural (drop (suc s) buf)
+    → (s ≤ length (set buf s (48 + rest % 10))) × (rest / 10 < 10 ^ s) × (value ≡ rest / 10 * 10 ^ (length (set buf s (48 + rest % 10)) - s) + natural (drop s (set buf s (48 + rest % 10))))
+written_more buf value rest s within below is =
+    let v = 48 + rest % 10 in
+    let size : length (set buf s (48 + rest % 10)) ≡ length buf = length-set buf s (48 + rest % 10) in
+    let tail : drop s (set buf s (48 + rest % 10)) ≡ (48 + rest % 10) ∷ drop (s + 1) buf = drop-set buf s (48 + rest % 10) (omega arith) in
+    let one : digit (48 + rest % 10) ≡ rest % 10 = digit_of (rest % 10) (omega arith) in
+    let behind : length (drop (suc s) buf) ≡ length buf - suc s = length-drop (suc s) buf in
+    let up : length buf - s ≡ suc (length buf - suc s) = omega arith in
+    let p = 10 ^ (length buf - suc s) in
+    let parts : rest ≡ rest / 10 * 10 + rest % 10 = omega arith in
+    let split : rest * 10 ^ (length buf - suc s) ≡ rest / 10 * (10 ^ (length buf - suc s) * 10) + rest % 10 * 10 ^ (length buf - suc s) =
+    ap (λ k. k * 10 ^ (length buf - suc s)) parts ∙ add-mul (rest / 10 * 10) (rest % 10) (10 ^ (length buf - suc s)) ∙ ap (λ k. k + rest % 10 * 10 ^ (length buf - suc s)) (mul_assoc (rest / 10) 10 (10 ^ (length buf - suc s)) ∙ ap (λ k. rest / 10 * k) (mul_comm 10 (10 ^ (length buf - suc s)))) in
+    let whole : natural (drop s (set buf s (48 + rest % 10))) ≡ rest % 10 * 10 ^ (length buf - suc s) + natural (drop (suc s) buf) =
+    ap natural tail ∙ natural_cons (48 + rest % 10) (drop (s + 1) buf) ∙ ap (λ k. digit (48 + rest % 10) * 10 ^ length (drop k buf) + natural (drop k buf)) (add-one s) ∙ rw (one, behind) refl in
+    let less : 10 ^ suc s ≡ 10 ^ s * 10 = pow-suc 10 s in
+    (omega arith, omega arith, rw (size, up, pow-suc 10 (length buf - suc s), whole) (omega arith))
+
+pub written_step : (buf : List ℕ) (value rest start : ℕ) → 0 < rest → start ≤ length buf → rest < 10 ^ start → value ≡ rest * 10 ^ (length buf - start) + natural (drop start buf)
+    → (start - 1 ≤ length (set buf (start - 1) (48 + rest % 10))) × (rest / 10 < 10 ^ (start - 1)) × (value ≡ rest / 10 * 10 ^ (length (set buf (start - 1) (48 + rest % 10)) - (start - 1)) + natural (drop (start - 1) (set buf (start - 1) (48 + rest % 10))))
+written_step buf value rest zero some within below is = absurd (let h = rw (pow-zero 10) at below in omega arith)
+written_step buf value rest (suc s) some within below is = let e : suc s - 1 ≡ s = omega arith in rw e (written_more buf value rest s within below is)

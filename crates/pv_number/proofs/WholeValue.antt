@@ -26,7 +26,7 @@ signed_size true zero = refl
 signed_size true (suc n) = refl
 signed_size false n = refl
 
-signed_times : (minus : Bool) (n p : ℕ) → signed minus n *ℤ pos p ≡ signed minus (n * p)
+pub signed_times : (minus : Bool) (n p : ℕ) → signed minus n *ℤ pos p ≡ signed minus (n * p)
 signed_times true zero p = let none : 0 * p ≡ 0 = omega arith in rw none refl
 signed_times true (suc n) p = refl
 signed_times false n p = refl

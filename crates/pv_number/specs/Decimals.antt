@@ -1,5 +1,7 @@
 -- A number taken apart, as the code holds it.
-use Rattle.std.specs.Prelude.{ℕ, zero, suc, ◌+◌, ◌*◌, List, ◌++◌, slice_index_or, length, ℤ, pos, ◌-ℤ◌, neg_ℤ, ◌^◌}
+use Rattle.std.specs.Prelude.{ℕ, zero, suc, ◌+◌, ◌*◌, List, ◌++◌, slice_index_or, length, ℤ, pos, ◌-ℤ◌, neg_ℤ, negsuc, ◌^◌, ◌<◌, ◌≡◌, ◌==◌, if◌then◌else◌}
+use Rattle.std.specs.Ordering.{MatchOrdering}
+use Rattle.std.specs.declared.cmp.Ordering.{Ordering}
 use Rattle.std.specs.Int.{int_max, int_min}
 use Rattle.pv_number.specs.ExactNumber.{Number, signed, natural, digit}
 use Rattle.pv_number.specs.declared.decimal.Decimal.{Decimal}
@@ -26,3 +28,11 @@ far = 2 ^ 100
 
 unfoldable pub capped : ℤ → ℤ
 capped x = int_max (neg_ℤ (pos far)) (int_min x (pos far))
+
+-- below zero, zero or above it
+abbrev pub sign_of : Decimal → ℤ
+sign_of d = if natural (digits d) == 0 then pos 0 else if d.negative then negsuc 0 else pos 1
+
+-- what an answer of a comparison says of two numbers
+abbrev pub Ranks : Ordering → ℕ → ℕ → Type 0
+Ranks r x y = MatchOrdering r (x < y) (x ≡ y) (y < x)

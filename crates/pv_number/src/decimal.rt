@@ -3,6 +3,7 @@
 ghost use Rattle.std.specs.Prelude.{◌≡◌, ◌+◌, ◌-◌, ◌*◌, ◌^◌, ◌<◌, ◌≤◌, pos, SomeIff, length, take, drop, slice_index_or};
 ghost use Rattle.std.specs.List.{position_or_len};
 ghost use Rattle.pv_number.specs.ExactNumber as spec;
+ghost use Rattle.pv_number.specs.NumberEquality.{int_number};
 ghost use Rattle.pv_number.specs.Decimals.{digits, exponent_of, number_of, run};
 
 use crate::lexeme::Lexeme;
@@ -125,6 +126,18 @@ impl Decimal<'_> {
         }
     }
 
+    /// The whole number that the digits form.
+    pub(crate) fn integer(negative: bool, digits: &[u8]) -> Decimal<'_>
+        ensures { number_of result ≡ int_number (spec.signed negative (spec.natural digits.now)) }
+    {
+        Decimal {
+            negative,
+            whole: digits,
+            fraction: &[],
+            exponent: Exponent::zero(),
+        }
+    }
+
     /// The number of digits.
     pub(crate) fn len(&self) -> usize
         ensures { result ≡ length (digits self.now) }
@@ -140,6 +153,18 @@ impl Decimal<'_> {
             digit_at(self.whole, place)
         } else {
             digit_at(self.fraction, place - self.whole.len())
+        }
+    }
+
+    /// The digit at `place` behind the first `skipped` ones, and 0 behind the last.
+    pub(crate) fn digit_behind(&self, skipped: usize, place: usize) -> u8
+        requires { skipped ≤ length (digits self.now) }
+        ensures { result ≡ spec.digit (slice_index_or (digits self.now) (skipped + place) 0) }
+    {
+        if place < self.len() - skipped {
+            self.digit(skipped + place)
+        } else {
+            0
         }
     }
 

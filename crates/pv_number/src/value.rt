@@ -72,7 +72,7 @@ fn whole_of(decimal: &Decimal) -> Whole
 }
 
 /// The whole number that the lexeme stands for. Zeros behind the point, and an exponent that
-/// moves the point behind the last digit, leave a number whole.
+/// moves the point behind the last digit, leave a number whole: `3.0` and `30e-1` are 3. Takes time in proportion to the length.
 pub fn whole(lexeme: &Lexeme) -> Whole
     ensures { spec.IsWhole (spec.number lexeme.now) result }
 {
