@@ -4,9 +4,11 @@ use Rattle.std.specs.Fmt.{signed_decimal}
 use Rattle.pv_number.specs.WrittenIntegers.{integer}
 use Rattle.pv_tree.specs.Plain.{plain}
 use Rattle.pv_tree.specs.declared.Tree.{Tree, out-Tree}
+use Rattle.pv_tree.specs.declared.Tree.TheVariants as tree
 use Rattle.pv_tree.specs.declared.Tree.TheOpen.{Tree-F}
-use Rattle.pv_notation.specs.Strings.{quoted}
-use Rattle.pv_notation.specs.Compact.{compact}
+use Rattle.pv_fault.specs.Errors.{errors_text}
+use Rattle.pv_fault.specs.declared.Kind.{Kind}
+use Rattle.pv_fault.specs.declared.Kind.TheVariants as kind
 use Rattle.pv_notation.specs.Notation.{notation}
 use Rattle.pv_json_grammar.specs.Values.{document}
 use Rattle.pv_cli.specs.Faults.{fault_text}
@@ -28,14 +30,15 @@ refused text status = record { out = []; line = text; status = status }
 abbrev pub not_built : Answer
 not_built = refused (line (codes "not built yet")) status.NotYet
 
--- the list of the one error that no integer was given
-abbrev pub int_type_errors : Tree → List ℕ
-int_type_errors t = codes "[{\"type\":\"int_type\",\"loc\":[],\"msg\":\"Input should be a valid integer\",\"input\":" ++ compact t ++ codes "}]"
+-- the printed list of one error at the document itself
+abbrev pub one_error : Kind → Tree → List ℕ
+one_error kind t = errors_text (record { kind = kind; loc = []; input = t } ∷ [])
 
--- the list of the one error that no JSON was given
+abbrev pub int_type_errors : Tree → List ℕ
+int_type_errors t = one_error kind.IntType t
+
 abbrev pub json_errors : List ℕ → List ℕ
-json_errors text =
-    codes "[{\"type\":\"json_invalid\",\"loc\":[],\"msg\":" ++ quoted (codes "Invalid JSON: " ++ text) ++ codes ",\"input\":null,\"ctx\":{\"error\":" ++ quoted text ++ codes "}}]"
+json_errors text = one_error (kind.JsonInvalid text) tree.Null
 
 -- a number under `int`, by the integer that is written there
 abbrev pub int_number : Option ℤ → Answer

@@ -9,66 +9,41 @@ use crate::answer::Answer;
 use crate::schema::Schema;
 use crate::status::Status;
 use itoa::Buffer;
+use pv_fault::{Faults, Kind, LineError, write_faults};
 use pv_json::{ReadFault, read};
-use pv_notation::{write_quoted, write_tree, write_value};
+use pv_notation::write_value;
 use pv_number::{Lexeme, integer};
-use pv_text::{ByteBuf, Memory};
-use pv_tree::{Tree, plain_value};
+use pv_text::{ByteBuf, Memory, Text};
+use pv_tree::{Loc, Tree, plain_value};
 use std::alloc::Global;
 
-/// The error list of a document that is no integer and nothing that stands for one.
-fn int_type_errors(alloc: Global, tree: &Tree) -> Result<ByteBuf, Memory>
-    ensures { IfOk result (λ b. b ≡ spec.int_type_errors tree.now) }
+/// The printed list of one error at the document itself.
+fn one_error(alloc: Global, kind: Kind, input: Tree) -> Result<ByteBuf, Memory>
+    ensures { IfOk result (λ b. b ≡ spec.one_error kind input) }
 {
+    let mut faults = Faults::new(alloc);
+    faults.push(LineError {
+        kind,
+        loc: Loc::new(alloc),
+        input,
+    })?;
     let mut out = ByteBuf::new(alloc);
-    out.push_slice(
-        b"[{\"type\":\"int_type\",\"loc\":[],\"msg\":\"Input should be a valid integer\",\"input\":",
-    )?;
-    write_tree(tree, &mut out)?;
-    out.push_slice(b"}]")?;
+    write_faults(&faults, &mut out)?;
     Ok(out)
 }
 
 /// The text of a fault in JSON, `at` being the place of the first byte that fits nowhere.
-fn bad_text(alloc: Global, at: u64) -> Result<ByteBuf, Memory>
-    ensures { IfOk result (λ b. b ≡ codes "unexpected byte at offset " ++ decimal at) }
+fn bad_text(alloc: Global, at: u64) -> Result<Text, Memory>
+    ensures { IfOk result (λ t. t ≡ codes "unexpected byte at offset " ++ decimal at) }
 {
-    let mut out = ByteBuf::new(alloc);
-    let mut buffer = Buffer::new();
-    out.push_slice(b"unexpected byte at offset ")?;
-    out.push_slice(buffer.format(at).as_bytes())?;
-    Ok(out)
+    let text = format!(in alloc; "unexpected byte at offset {at}")?;
+    Text::from_str(alloc, text.as_str())
 }
 
-fn end_text(alloc: Global) -> Result<ByteBuf, Memory>
-    ensures { IfOk result (λ b. b ≡ codes "unexpected end of input") }
+fn end_text(alloc: Global) -> Result<Text, Memory>
+    ensures { IfOk result (λ t. t ≡ codes "unexpected end of input") }
 {
-    let mut out = ByteBuf::new(alloc);
-    out.push_slice(b"unexpected end of input")?;
-    Ok(out)
-}
-
-fn json_message(alloc: Global, text: &[u8]) -> Result<ByteBuf, Memory>
-    ensures { IfOk result (λ b. b ≡ codes "Invalid JSON: " ++ text.now) }
-{
-    let mut out = ByteBuf::new(alloc);
-    out.push_slice(b"Invalid JSON: ")?;
-    out.push_slice(text)?;
-    Ok(out)
-}
-
-/// The error list of a document that is no JSON.
-fn json_errors(alloc: Global, text: &[u8]) -> Result<ByteBuf, Memory>
-    ensures { IfOk result (λ b. b ≡ spec.json_errors text.now) }
-{
-    let message = json_message(alloc, text)?;
-    let mut out = ByteBuf::new(alloc);
-    out.push_slice(b"[{\"type\":\"json_invalid\",\"loc\":[],\"msg\":")?;
-    write_quoted(message.as_slice(), &mut out)?;
-    out.push_slice(b",\"input\":null,\"ctx\":{\"error\":")?;
-    write_quoted(text, &mut out)?;
-    out.push_slice(b"}}]")?;
-    Ok(out)
+    Text::from_str(alloc, "unexpected end of input")
 }
 
 fn decimal_text(alloc: Global, n: i128) -> Result<ByteBuf, Memory>
@@ -92,7 +67,8 @@ fn int_number(alloc: Global, lexeme: &Lexeme) -> Result<Answer, Memory>
 fn int_type(alloc: Global, tree: &Tree) -> Result<Answer, Memory>
     ensures { IfOk result (λ a. a ≡ spec.printed (spec.int_type_errors tree.now) Status.Invalid) }
 {
-    Answer::printed(alloc, int_type_errors(alloc, tree)?, Status::Invalid)
+    let errors = one_error(alloc, Kind::IntType, tree.share(alloc)?)?;
+    Answer::printed(alloc, errors, Status::Invalid)
 }
 
 #[tactic(auto, unfolding(crate::specs::Documents::int_answer))]
@@ -118,10 +94,11 @@ fn any_answer(alloc: Global, tree: &Tree) -> Result<Answer, Memory>
     Answer::printed(alloc, out, Status::Valid)
 }
 
-fn no_json(alloc: Global, text: ByteBuf) -> Result<Answer, Memory>
-    ensures { IfOk result (λ a. a ≡ spec.printed (spec.json_errors text) Status.Invalid) }
+fn no_json(alloc: Global, error: Text) -> Result<Answer, Memory>
+    ensures { IfOk result (λ a. a ≡ spec.printed (spec.json_errors error) Status.Invalid) }
 {
-    Answer::printed(alloc, json_errors(alloc, text.as_slice())?, Status::Invalid)
+    let errors = one_error(alloc, Kind::JsonInvalid { error }, Tree::Null)?;
+    Answer::printed(alloc, errors, Status::Invalid)
 }
 
 #[tactic(auto, unfolding(crate::specs::Documents::of_document))]
