@@ -1,5 +1,6 @@
 -- Why no tree is answered.
-use Rattle.std.specs.Prelude.{◌≡◌, ℕ, ◌+◌, ◌<◌, Result, Err}
+use Rattle.std.specs.Prelude.{◌≡◌, ℕ, ◌+◌, ◌<◌, List, Result, Err}
+use Rattle.pv_json_grammar.specs.Spells.{SpellsDocument}
 use Rattle.pv_tree.specs.declared.Tree.{Tree}
 use Rattle.pv_json.specs.declared.fault.ReadFault.{ReadFault}
 use Rattle.pv_json.specs.declared.fault.ReadFault.TheVariants as faults
@@ -9,3 +10,9 @@ abbrev pub Refuses : ReadFault → Result Tree ℕ → ℕ → Type 0
 Refuses (faults.Bad at) read size = (left : ℕ) × (read ≡ Err left) × (0 < left) × (at + left ≡ size)
 Refuses faults.End read size = read ≡ Err 0
 Refuses faults.Memory read size = Unit {0}
+
+-- the input spells no tree; want of memory does not say so
+abbrev pub IsWithoutTree : ReadFault → ℕ → List ℕ → Type 0
+IsWithoutTree (faults.Bad at) nesting bs = (t : Tree) → ¬ SpellsDocument nesting bs t
+IsWithoutTree faults.End nesting bs = (t : Tree) → ¬ SpellsDocument nesting bs t
+IsWithoutTree faults.Memory nesting bs = Unit {0}

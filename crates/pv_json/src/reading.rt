@@ -1,6 +1,7 @@
 ghost use Rattle.std.specs.Prelude.{◌≡◌, length, IfOk, IfErr};
 ghost use Rattle.pv_json_grammar.specs.Values as spec;
-ghost use Rattle.pv_json.specs.Refuses.{Refuses};
+ghost use Rattle.pv_json_grammar.specs.Spells.{SpellsDocument};
+ghost use Rattle.pv_json.specs.Refuses.{IsWithoutTree, Refuses};
 
 use crate::fault::{ReadError, ReadFault};
 use crate::values::document;
@@ -10,8 +11,8 @@ use std::alloc::Global;
 /// How many containers nest in a document at most.
 pub const NESTING: usize = 128;
 
-/// The tree that the whole input spells.
-pub fn read(alloc: Global, input: &[u8]) -> Result<Tree, ReadFault>
+/// The tree that is read of the whole input, or where reading fails.
+fn read_whole(alloc: Global, input: &[u8]) -> Result<Tree, ReadFault>
     ensures tree { IfOk result (λ t. spec.document NESTING input.now ≡ Ok t) }
     ensures fault { IfErr result (λ e. Refuses e (spec.document NESTING input.now) (length input.now)) }
 {
@@ -23,4 +24,19 @@ pub fn read(alloc: Global, input: &[u8]) -> Result<Tree, ReadFault>
             at: (input.len() - left) as u64,
         }),
     }
+}
+
+/// The tree that the whole input spells (RFC 8259, in UTF-8), of which at most `NESTING` containers nest.
+/// Time is linear in the input. The answer names the place of the first byte that fits nowhere, by the
+/// reading of values in order.
+pub fn read(alloc: Global, input: &[u8]) -> Result<Tree, ReadFault>
+    // A tree comes exactly where the grammar has one.
+    ensures spelled { IfOk result (λ t. SpellsDocument NESTING input.now t) }
+    ensures unspelled { IfErr result (λ e. IsWithoutTree e NESTING input.now) }
+
+    // Which tree, and which place.
+    ensures tree { IfOk result (λ t. spec.document NESTING input.now ≡ Ok t) }
+    ensures fault { IfErr result (λ e. Refuses e (spec.document NESTING input.now) (length input.now)) }
+{
+    read_whole(alloc, input)
 }
