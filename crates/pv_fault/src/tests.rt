@@ -274,6 +274,7 @@ fn puts_errors_under_steps(rt: HostRuntime) -> Result<(), Memory> {
     let both =
         r#"[{"type":"my \"type\"","loc":["a\"b"],"msg":"a\\b\n","input":"é\\"},{"type":"missing","loc":["a\"b",3],"msg":"Field required","input":null}]"#;
     assert!(rt; out.as_slice() == both.as_bytes());
+    assert_eq!(rt; faults.len(), 2);
     faults.cut(1);
     assert!(rt; faults.get(0).is_some() && faults.get(1).is_none());
     Ok(())

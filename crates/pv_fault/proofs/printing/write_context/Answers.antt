@@ -1,4 +1,4 @@
-use Rattle.std.proofs.Common.{rules, sym, ◌∙◌}
+use Rattle.std.proofs.Common.{sym, ◌∙◌}
 use Rattle.pv_fault.proofs.Written.{context_written}
 use Rattle.pv_fault.proofs.printing.write_context.Goals as goal
 

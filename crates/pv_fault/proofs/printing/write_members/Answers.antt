@@ -1,4 +1,4 @@
-use Rattle.std.proofs.Common.{rules, map, ap, sym, ◌∙◌, ◌++◌}
+use Rattle.std.proofs.Common.{rules, ap, sym, ◌∙◌, ◌++◌}
 use Rattle.std.proofs.lemmas.Simd.{map-map}
 use Rattle.pv_notation.specs.Lists.{joined}
 use Rattle.pv_notation.specs.Compact.{member_text}
