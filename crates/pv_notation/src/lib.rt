@@ -4,6 +4,8 @@
 mod laws;
 mod locations;
 mod strings;
+#[cfg(test)]
+mod tests;
 mod trees;
 mod values;
 

@@ -4,6 +4,8 @@
 mod byte_buf;
 mod bytes;
 mod memory;
+#[cfg(test)]
+mod tests;
 mod text;
 
 pub use byte_buf::ByteBuf;

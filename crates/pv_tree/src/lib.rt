@@ -7,6 +7,8 @@ mod location;
 mod making;
 mod plain;
 mod row;
+#[cfg(test)]
+mod tests;
 mod tree;
 mod value;
 
