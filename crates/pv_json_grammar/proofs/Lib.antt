@@ -4,3 +4,13 @@ pub mod Utf8
 pub mod StringSound
 pub mod StringComplete
 pub mod Utf8Kept
+pub mod Quoted
+pub mod Names
+pub mod CompactSpelled
+pub mod SpelledTrees
+pub mod CompactPrinted
+pub mod Several
+pub mod SeveralSound
+pub mod SeveralComplete
+pub mod ValueSound
+pub mod ValueComplete

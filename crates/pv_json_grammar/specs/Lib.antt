@@ -2,3 +2,5 @@ pub mod Reading
 pub mod Strings
 pub mod Values
 pub mod SpelledStrings
+pub mod Spells
+pub mod DocumentTrees

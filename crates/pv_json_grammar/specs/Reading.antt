@@ -1,5 +1,5 @@
 -- Reading as a function: the value and the bytes after it, or how many bytes are left at the first that fits nowhere.
-use Rattle.std.specs.Prelude.{◌≡◌, ℕ, ◌+◌, Bool, ◌||◌, ◌&&◌, if◌then◌else◌, ◌==◌, nat_le, List, [], ◌∷◌, ◌++◌, length, take, drop, Result, Ok, Err}
+use Rattle.std.specs.Prelude.{ℕ, ◌+◌, Bool, ◌||◌, ◌&&◌, if◌then◌else◌, ◌==◌, nat_le, List, [], ◌∷◌, ◌++◌, length, take, drop, Result, Ok, Err}
 use Rattle.pv_number.specs.Scanning.{◌>>=◌, number_len}
 
 abbrev pub Reads : Type 0 → Type 0

@@ -1,5 +1,5 @@
 -- The grammar of strings (RFC 8259, section 7, in UTF-8), apart from the reader: which bytes spell a text.
-use Rattle.std.specs.Prelude.{◌≡◌, ◌≢◌, ℕ, ◌+◌, ◌*◌, ◌<◌, ◌≤◌, List, [], ◌∷◌, ◌++◌, length, encode_utf8, ◌⊎◌}
+use Rattle.std.specs.Prelude.{◌≡◌, ◌≢◌, ℕ, ◌+◌, ◌*◌, ◌<◌, ◌≤◌, List, [], ◌∷◌, ◌++◌, encode_utf8, ◌⊎◌}
 use Rattle.std.specs.Char.{IsScalar}
 use Rattle.pv_json_grammar.specs.Strings.{escaped, hex_value, joined}
 
@@ -42,4 +42,3 @@ pub record SpellsString (text bytes : List ℕ) : Type 0 where
   pub each : AllUnits units
   pub whole : text ≡ 34 ∷ spelled units ++ 34 ∷ []
   pub means : bytes ≡ meant units
-

@@ -6,4 +6,4 @@ pub mod WholeValue
 pub mod WholeLaws
 pub mod NumberOrder
 pub mod NumberLaws
-pub mod Integers
+pub mod WrittenIntegers

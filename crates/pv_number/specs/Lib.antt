@@ -3,3 +3,4 @@ pub mod Grammar
 pub mod ExactNumber
 pub mod NumberEquality
 pub mod Decimals
+pub mod WrittenIntegers

@@ -11,6 +11,7 @@ mod scanning;
 #[cfg(test)]
 mod tests;
 mod value;
+mod written;
 
 pub use comparing::{compare, compare_int};
 pub use exact::Whole;
@@ -18,3 +19,4 @@ pub use laws::{integers_are_whole, numbers_are_ordered, numbers_are_scanned, who
 pub use lexeme::{Lexeme, LexemeFault};
 pub use scanning::number_len;
 pub use value::{is_integer, whole};
+pub use written::integer;

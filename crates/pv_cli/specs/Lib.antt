@@ -1,0 +1,9 @@
+pub mod Codes
+pub mod Command
+pub mod Lines
+pub mod Faults
+pub mod Schemas
+pub mod Documents
+pub mod Answering
+pub mod Running
+pub mod Steps

@@ -1,0 +1,48 @@
+-- The lines on standard error, each with its line feed.
+use Rattle.std.specs.Prelude.{◌≡◌, ℕ, ◌⊎◌, List, [], ◌∷◌, ◌++◌, codes, Option, Some, None}
+use Rattle.pv_notation.specs.Strings.{quoted}
+use Rattle.pv_cli.specs.declared.status.Status.{Status}
+use Rattle.pv_cli.specs.declared.status.Status.TheVariants.{Valid, Invalid, WordsRefused, SchemaRefused, ReadFault, TooLarge, WriteFault, Memory, DumpRefused, NotYet}
+
+abbrev pub line : List ℕ → List ℕ
+line text = text ++ 10 ∷ []
+
+abbrev pub read_failed : List ℕ → List ℕ
+read_failed name = line (codes "read failed: " ++ quoted name)
+
+abbrev pub too_large : List ℕ → List ℕ
+too_large name = line (codes "too large: " ++ quoted name)
+
+abbrev pub schema_refused : List ℕ → List ℕ
+schema_refused reason = line (codes "schema refused: " ++ reason)
+
+-- a line about one of the two files that the command names
+abbrev pub IsOfFile : (List ℕ → List ℕ) → Option (List ℕ × List ℕ) → List ℕ → Type 0
+IsOfFile of None text = ⊥
+IsOfFile of (Some names) text = (text ≡ of names.0) ⊎ (text ≡ of names.1)
+
+-- what stands there with each status, by the names of the command
+abbrev pub IsLineOf : Option (List ℕ × List ℕ) → Status → List ℕ → Type 0
+IsLineOf names Valid text = text ≡ []
+IsLineOf names Invalid text = text ≡ []
+IsLineOf names WordsRefused text = ⊥
+IsLineOf names SchemaRefused text = (reason : List ℕ) × (text ≡ schema_refused reason)
+IsLineOf names ReadFault text = IsOfFile read_failed names text
+IsLineOf names TooLarge text = IsOfFile too_large names text
+IsLineOf names WriteFault text = text ≡ line (codes "write failed")
+IsLineOf names Memory text = text ≡ line (codes "out of memory")
+IsLineOf names DumpRefused text = ⊥
+IsLineOf names NotYet text = text ≡ line (codes "not built yet")
+
+-- what an answer prints on standard output with each status; an answer has none of the other statuses
+abbrev pub IsOutOf : Status → List ℕ → Type 0
+IsOutOf Valid text = Unit {0}
+IsOutOf Invalid text = Unit {0}
+IsOutOf WordsRefused text = ⊥
+IsOutOf SchemaRefused text = text ≡ []
+IsOutOf ReadFault text = text ≡ []
+IsOutOf TooLarge text = text ≡ []
+IsOutOf WriteFault text = ⊥
+IsOutOf Memory text = ⊥
+IsOutOf DumpRefused text = ⊥
+IsOutOf NotYet text = text ≡ []

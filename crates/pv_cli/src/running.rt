@@ -1,0 +1,65 @@
+ghost use Rattle.std.specs.Prelude.{◌≡◌, ◌+◌, ◌^◌, ◌-◌, ◌<◌, ◌≤◌, ◌⊎◌, ℕ, List, true, []};
+ghost use Rattle.std.specs.Io.KnownBytes.{Appends};
+ghost use Rattle.pv_edge.specs.Sending.{SentInPart};
+ghost use Rattle.pv_cli.specs.Answering as spec;
+ghost use Rattle.pv_cli.specs.Answering.{answer};
+ghost use Rattle.pv_cli.specs.Command.{command};
+ghost use Rattle.pv_cli.specs.Lines.{IsLineOf};
+ghost use Rattle.pv_cli.specs.Running.{IsTold, Puts, WhereTold, is_decided, is_printed, read_size};
+
+use crate::status::Status;
+use crate::words::Words;
+use crate::working::work;
+use pv_edge::{Shelf, Sink, put_all};
+use std::alloc::Global;
+
+/// Runs the command that the words name. The files come from the shelf, the answer goes to `out`, and
+/// a line that says why there is none goes to `err`.
+pub fn run<F: Shelf, O: Sink, E: Sink>(
+    alloc: Global,
+    words: &Words,
+    shelf: &mut F,
+    out: &mut O,
+    err: &mut E,
+) -> Status
+    requires given { F.given shelf.old ≤ 2 ^ 62 }
+    requires shelf_faults { F.faults shelf.old < 2 ^ 64 - 1 }
+    requires out_faults { O.faults out.old < 2 ^ 64 - 1 }
+    requires err_faults { E.faults err.old < 2 ^ 64 - 1 }
+
+    // What the words and the files decide is printed, exactly.
+    ensures exact_status { is_decided result ≡ true → WhereTold (F.held shelf.old) (λ files. (answer words.now files).status ≡ result) }
+    ensures exact_output { is_decided result ≡ true → WhereTold (F.held shelf.old) (λ files. Appends (O.took out.old) (O.took out.new) (answer words.now files).out) }
+    ensures exact_line { is_decided result ≡ true → WhereTold (F.held shelf.old) (λ files. Puts (E.took err.old) (E.took err.new) (E.faults err.old) (E.faults err.new) (answer words.now files).line) }
+    ensures whole_files { is_printed result ≡ true → WhereTold (F.held shelf.old) (λ files. F.given shelf.new ≡ F.given shelf.old + read_size files (command words.now)) }
+
+    // Why anything else comes.
+    ensures read_cause { result ≡ Status.ReadFault → (F.faults shelf.old < F.faults shelf.new) ⊎ IsTold (F.held shelf.old) (λ files. ((answer words.now files).status ≡ result) × Puts (E.took err.old) (E.took err.new) (E.faults err.old) (E.faults err.new) (answer words.now files).line) }
+    ensures read_output { result ≡ Status.ReadFault → Appends (O.took out.old) (O.took out.new) [] }
+    ensures large_cause { result ≡ Status.TooLarge → F.given shelf.old + spec.limit + 1 ≤ F.given shelf.new }
+    ensures write_cause { result ≡ Status.WriteFault → O.faults out.old < O.faults out.new }
+    ensures write_part { result ≡ Status.WriteFault → WhereTold (F.held shelf.old) (λ files. SentInPart (O.took out.old) (O.took out.new) (answer words.now files).out) }
+    ensures memory_output { result ≡ Status.Memory → Appends (O.took out.old) (O.took out.new) [] }
+
+    // Where no count of faults rises, it is the status that the words and the files decide, or want of memory.
+    ensures complete { F.faults shelf.new ≡ F.faults shelf.old → O.faults out.new ≡ O.faults out.old → WhereTold (F.held shelf.old) (λ files. (result ≡ (answer words.now files).status) ⊎ (result ≡ Status.Memory)) }
+
+    // The line of each status.
+    ensures line { (text : List ℕ) × IsLineOf (command words.now) result text × Puts (E.took err.old) (E.took err.new) (E.faults err.old) (E.faults err.new) text }
+
+    // The shelf after any answer.
+    ensures held { F.held shelf.new ≡ F.held shelf.old }
+    ensures later { F.faults shelf.old ≤ F.faults shelf.new }
+    ensures rises { F.given shelf.old ≤ F.given shelf.new }
+{
+    let Ok(answer) = work(alloc, words, shelf) else {
+        let _ = put_all(err, b"out of memory\n");
+        return Status::Memory;
+    };
+    let Ok(()) = put_all(out, answer.out.as_slice()) else {
+        let _ = put_all(err, b"write failed\n");
+        return Status::WriteFault;
+    };
+    let _ = put_all(err, answer.line.as_slice());
+    answer.status
+}

@@ -1,0 +1,108 @@
+//! Copies of values. The texts and lexemes in them are shared.
+
+ghost use Rattle.std.specs.Prelude.{◌≡◌, IfOk};
+
+use crate::value::{Entries, Named, Names, Value, Values};
+use pv_text::{Bytes, Memory, Text};
+use sqlite_items::{Boxed, Items};
+use std::alloc::Global;
+
+fn copy_names(alloc: Global, names: &[Text]) -> Result<Names, Memory>
+    ensures { IfOk result (λ all. all ≡ names.now) }
+{
+    let mut all = Items::new(alloc);
+    for name in names {
+        all.push(name.share(alloc)?)?;
+    }
+    Ok(all)
+}
+
+#[cycle(copy)]
+fn copy_values(alloc: Global, values: &[Value]) -> Result<Values, Memory>
+    ensures { IfOk result (λ all. all ≡ values.now) }
+{
+    let mut all = Items::new(alloc);
+    for value in values {
+        all.push(value.copy(alloc)?)?;
+    }
+    Ok(all)
+}
+
+#[cycle(copy)]
+fn copy_named(alloc: Global, named: &[(Text, Value)]) -> Result<Named, Memory>
+    ensures { IfOk result (λ all. all ≡ named.now) }
+{
+    let mut all = Items::new(alloc);
+    for (name, value) in named {
+        let name = name.share(alloc)?;
+        let value = value.copy(alloc)?;
+        all.push((name, value))?;
+    }
+    Ok(all)
+}
+
+#[cycle(copy)]
+fn copy_entries(alloc: Global, entries: &[(Value, Value)]) -> Result<Entries, Memory>
+    ensures { IfOk result (λ all. all ≡ entries.now) }
+{
+    let mut all = Items::new(alloc);
+    for (key, value) in entries {
+        let key = key.copy(alloc)?;
+        let value = value.copy(alloc)?;
+        all.push((key, value))?;
+    }
+    Ok(all)
+}
+
+#[cycle(copy)]
+fn copy_boxed(alloc: Global, value: &Boxed<Value>) -> Result<Boxed<Value>, Memory>
+    ensures { IfOk result (λ b. b ≡ value.now) }
+{
+    Ok(Boxed::new(alloc, value.get().copy(alloc)?)?)
+}
+
+impl Value {
+    /// An identical value.
+    #[cycle(copy)]
+    pub fn copy(&self, alloc: Global) -> Result<Value, Memory>
+        ensures { IfOk result (λ v. v ≡ self.now) }
+    {
+        match self {
+            Value::None => Ok(Value::None),
+            Value::Bool(b) => Ok(Value::Bool(*b)),
+            Value::Int(n) => Ok(Value::Int(*n)),
+            Value::Lexeme(lexeme) => Ok(Value::Lexeme(lexeme.share(alloc)?)),
+            Value::Str(text) => Ok(Value::Str(text.share(alloc)?)),
+            Value::Bytes(bytes) => Ok(Value::Bytes(Bytes::from_slice(alloc, bytes.as_slice())?)),
+            Value::Atom { kind, text } => Ok(Value::Atom {
+                kind: *kind,
+                text: text.share(alloc)?,
+            }),
+            Value::Enum { cls, name, value } => Ok(Value::Enum {
+                cls: cls.share(alloc)?,
+                name: name.share(alloc)?,
+                value: copy_boxed(alloc, value)?,
+            }),
+            Value::List(values) => Ok(Value::List(copy_values(alloc, values.as_slice())?)),
+            Value::Tuple(values) => Ok(Value::Tuple(copy_values(alloc, values.as_slice())?)),
+            Value::Set(values) => Ok(Value::Set(copy_values(alloc, values.as_slice())?)),
+            Value::Frozen(values) => Ok(Value::Frozen(copy_values(alloc, values.as_slice())?)),
+            Value::Dict(entries) => Ok(Value::Dict(copy_entries(alloc, entries.as_slice())?)),
+            Value::Model {
+                cls,
+                fields,
+                set,
+                extra,
+            } => Ok(Value::Model {
+                cls: cls.share(alloc)?,
+                fields: copy_named(alloc, fields.as_slice())?,
+                set: copy_names(alloc, set.as_slice())?,
+                extra: copy_named(alloc, extra.as_slice())?,
+            }),
+            Value::Root { cls, value } => Ok(Value::Root {
+                cls: cls.share(alloc)?,
+                value: copy_boxed(alloc, value)?,
+            }),
+        }
+    }
+}

@@ -1,0 +1,73 @@
+use pv_text::{Memory, Text};
+use smallvec::SmallVec;
+use std::alloc::Global;
+use std::marker::Model;
+
+/// One step from a value to a part of it: a member's name, or an item's place from 0.
+#[derive(Drop)]
+pub enum Step {
+    Name(Text),
+    Index(u64),
+}
+
+impl Default for Step {
+    fn default() -> Step {
+        Step::Index(0)
+    }
+}
+
+/// Where a part stands: the steps to it from the whole. It keeps its allocator.
+#[derive(Drop)]
+pub struct Loc {
+    steps: SmallVec<Step, 4>,
+}
+
+impl Model for Loc {
+    ghost use Rattle.std.specs.Prelude.{List};
+    ghost use Rattle.pv_tree.specs.declared.location.Step.{Step};
+
+    ghost Value = { List Step };
+
+    ghost view = { λ l. l.steps.items };
+}
+
+impl Loc {
+    ghost use Rattle.std.specs.Prelude.{◌≡◌, ◌<◌, [], ◌∷◌, ◌++◌, length, slice_get, OnOk, OnErr, OnSome};
+    ghost use Rattle.std.specs.Option.{option_copied};
+
+    pub fn new(alloc: Global) -> Loc
+        ensures { result ≡ [] }
+    {
+        Loc {
+            steps: SmallVec::new(alloc),
+        }
+    }
+
+    pub fn push(&mut self, step: Step) -> Result<(), Memory>
+        ensures ok { OnOk result (self.new ≡ self.old ++ step ∷ []) }
+        ensures err { OnErr result (self.new ≡ self.old) }
+    {
+        self.steps.push(step)?;
+        Ok(())
+    }
+
+    pub fn len(&self) -> usize
+        ensures { result ≡ length self.now }
+    {
+        self.steps.len()
+    }
+
+    /// `None` exactly where `place` is not below the length.
+    pub fn get(&self, place: usize) -> Option<&Step>
+        ensures value { option_copied result ≡ slice_get self.now place }
+        ensures within { OnSome result (place < length self.now) }
+    {
+        self.steps.as_slice().get(place)
+    }
+
+    pub fn as_slice(&self) -> &[Step]
+        ensures { result.now ≡ self.now }
+    {
+        self.steps.as_slice()
+    }
+}
