@@ -4,7 +4,6 @@ pub mod Runs
 pub mod Exponents
 pub mod WholeValue
 pub mod WholeLaws
-pub mod WrittenIntegers
 pub mod NumberOrder
 pub mod NumberLaws
-pub mod Integers
+pub mod WrittenIntegers

@@ -53,7 +53,7 @@ either : (q : ℕ → Bool) (t : Bool) (bs : List ℕ) → list_all q bs ≡ tru
 either q true bs all = behind_first q bs all
 either q false bs all = all
 
-exponent_none : (bs : List ℕ) → is_integer bs ≡ true → (number bs).exponent ≡ pos 0
+pub exponent_none : (bs : List ℕ) → is_integer bs ≡ true → (number bs).exponent ≡ pos 0
 unfolding number
 exponent_none bs all =
     let free = each bs all in
