@@ -8,6 +8,8 @@ mod lines;
 mod running;
 mod schema;
 mod status;
+#[cfg(test)]
+mod tests;
 mod words;
 mod working;
 
