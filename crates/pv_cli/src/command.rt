@@ -30,7 +30,8 @@ fn are_operands(schema: &str, document: &str) -> bool
 /// The names of the schema file and of the document file, where the command is built.
 #[tactic(auto, unfolding(crate::specs::Command::command))]
 pub(crate) fn command(words: &[Text]) -> Option<(&Text, &Text)>
-    ensures { MatchOption result (spec.command words.now ≡ None) (λ names. spec.command words.now ≡ Some (names.0.now, names.1.now)) }
+    ensures { MatchOption result (spec.command words.now ≡ None) (λ names.
+        spec.command words.now ≡ Some (names.0.now, names.1.now)) }
 {
     match words {
         [] => None,

@@ -28,24 +28,41 @@ pub fn run<F: Shelf, O: Sink, E: Sink>(
     requires err_faults { E.faults err.old < 2 ^ 64 - 1 }
 
     // What the words and the files decide is printed, exactly.
-    ensures exact_status { is_decided result ≡ true → WhereTold (F.held shelf.old) (λ files. (answer words.now files).status ≡ result) }
-    ensures exact_output { is_decided result ≡ true → WhereTold (F.held shelf.old) (λ files. Appends (O.took out.old) (O.took out.new) (answer words.now files).out) }
-    ensures exact_line { is_decided result ≡ true → WhereTold (F.held shelf.old) (λ files. Puts (E.took err.old) (E.took err.new) (E.faults err.old) (E.faults err.new) (answer words.now files).line) }
-    ensures whole_files { is_printed result ≡ true → WhereTold (F.held shelf.old) (λ files. F.given shelf.new ≡ F.given shelf.old + read_size files (command words.now)) }
+    ensures exact_status { is_decided result ≡ true →
+        WhereTold (F.held shelf.old) (λ files. (answer words.now files).status ≡ result) }
+    ensures exact_output { is_decided result ≡ true →
+        WhereTold (F.held shelf.old) (λ files.
+        Appends (O.took out.old) (O.took out.new) (answer words.now files).out) }
+    ensures exact_line { is_decided result ≡ true →
+        WhereTold (F.held shelf.old) (λ files.
+        Puts (E.took err.old) (E.took err.new) (E.faults err.old) (E.faults err.new)
+        (answer words.now files).line) }
+    ensures whole_files { is_printed result ≡ true →
+        WhereTold (F.held shelf.old) (λ files.
+        F.given shelf.new ≡ F.given shelf.old + read_size files (command words.now)) }
 
     // Why anything else comes.
-    ensures read_cause { result ≡ Status.ReadFault → (F.faults shelf.old < F.faults shelf.new) ⊎ IsTold (F.held shelf.old) (λ files. ((answer words.now files).status ≡ result) × Puts (E.took err.old) (E.took err.new) (E.faults err.old) (E.faults err.new) (answer words.now files).line) }
+    ensures read_cause { result ≡ Status.ReadFault →
+        (F.faults shelf.old < F.faults shelf.new) ⊎ IsTold (F.held shelf.old) (λ files.
+        ((answer words.now files).status ≡ result) ×
+        Puts (E.took err.old) (E.took err.new) (E.faults err.old) (E.faults err.new)
+        (answer words.now files).line) }
     ensures read_output { result ≡ Status.ReadFault → Appends (O.took out.old) (O.took out.new) [] }
     ensures large_cause { result ≡ Status.TooLarge → F.given shelf.old + spec.limit + 1 ≤ F.given shelf.new }
     ensures write_cause { result ≡ Status.WriteFault → O.faults out.old < O.faults out.new }
-    ensures write_part { result ≡ Status.WriteFault → WhereTold (F.held shelf.old) (λ files. SentInPart (O.took out.old) (O.took out.new) (answer words.now files).out) }
+    ensures write_part { result ≡ Status.WriteFault →
+        WhereTold (F.held shelf.old) (λ files.
+        SentInPart (O.took out.old) (O.took out.new) (answer words.now files).out) }
     ensures memory_output { result ≡ Status.Memory → Appends (O.took out.old) (O.took out.new) [] }
 
     // Where no count of faults rises, it is the status that the words and the files decide, or want of memory.
-    ensures complete { F.faults shelf.new ≡ F.faults shelf.old → O.faults out.new ≡ O.faults out.old → WhereTold (F.held shelf.old) (λ files. (result ≡ (answer words.now files).status) ⊎ (result ≡ Status.Memory)) }
+    ensures complete { F.faults shelf.new ≡ F.faults shelf.old → O.faults out.new ≡ O.faults out.old →
+        WhereTold (F.held shelf.old) (λ files.
+        (result ≡ (answer words.now files).status) ⊎ (result ≡ Status.Memory)) }
 
     // The line of each status.
-    ensures line { (text : List ℕ) × IsLineOf (command words.now) result text × Puts (E.took err.old) (E.took err.new) (E.faults err.old) (E.faults err.new) text }
+    ensures line { (text : List ℕ) × IsLineOf (command words.now) result text ×
+        Puts (E.took err.old) (E.took err.new) (E.faults err.old) (E.faults err.new) text }
 
     // The shelf after any answer.
     ensures held { F.held shelf.new ≡ F.held shelf.old }

@@ -82,11 +82,17 @@ fn answer_file<F: Shelf>(
     ensures later { F.faults shelf.old ≤ F.faults shelf.new }
     ensures rises { F.given shelf.old ≤ F.given shelf.new }
 
-    ensures reply { IfOk result (Replies (F.held shelf.old) (λ files. of_file name.now (of_document schema) (file files name.now)) (F.faults shelf.old) (F.faults shelf.new)) }
+    ensures reply { IfOk result (Replies (F.held shelf.old)
+        (λ files. of_file name.now (of_document schema) (file files name.now))
+        (F.faults shelf.old) (F.faults shelf.new)) }
     ensures line { IfOk result (λ a. (first : List ℕ) → IsLineOf (Some (first, name.now)) a.status a.line) }
     ensures out { IfOk result (λ a. IsOutOf a.status a.out) }
-    ensures large { IfOk result (λ a. a.status ≡ Status.TooLarge → F.given shelf.new ≡ F.given shelf.old + spec.limit + 1) }
-    ensures whole { IfOk result (λ a. is_printed a.status ≡ true → WhereTold (F.held shelf.old) (λ files. F.given shelf.new ≡ F.given shelf.old + size_of files name.now)) }
+    ensures large { IfOk result (λ a.
+        a.status ≡ Status.TooLarge → F.given shelf.new ≡ F.given shelf.old + spec.limit + 1) }
+    ensures whole { IfOk result (λ a.
+        is_printed a.status ≡ true →
+        WhereTold (F.held shelf.old) (λ files.
+        F.given shelf.new ≡ F.given shelf.old + size_of files name.now)) }
 {
     match load(alloc, shelf, name.as_str(), LIMIT) {
         Ok(bytes) => answer_document(alloc, schema, bytes.as_slice()),
@@ -106,11 +112,18 @@ fn answer_files<F: Shelf>(
     ensures later { F.faults shelf.old ≤ F.faults shelf.new }
     ensures rises { F.given shelf.old ≤ F.given shelf.new }
 
-    ensures reply { IfOk result (Replies (F.held shelf.old) (λ files. of_command files (Some (schema_name.now, document_name.now))) (F.faults shelf.old) (F.faults shelf.new)) }
+    ensures reply { IfOk result (Replies (F.held shelf.old)
+        (λ files. of_command files (Some (schema_name.now, document_name.now)))
+        (F.faults shelf.old) (F.faults shelf.new)) }
     ensures line { IfOk result (λ a. IsLineOf (Some (schema_name.now, document_name.now)) a.status a.line) }
     ensures out { IfOk result (λ a. IsOutOf a.status a.out) }
-    ensures large { IfOk result (λ a. a.status ≡ Status.TooLarge → F.given shelf.old + spec.limit + 1 ≤ F.given shelf.new) }
-    ensures whole { IfOk result (λ a. is_printed a.status ≡ true → WhereTold (F.held shelf.old) (λ files. F.given shelf.new ≡ F.given shelf.old + read_size files (Some (schema_name.now, document_name.now)))) }
+    ensures large { IfOk result (λ a.
+        a.status ≡ Status.TooLarge → F.given shelf.old + spec.limit + 1 ≤ F.given shelf.new) }
+    ensures whole { IfOk result (λ a.
+        is_printed a.status ≡ true →
+        WhereTold (F.held shelf.old) (λ files.
+        F.given shelf.new ≡
+        F.given shelf.old + read_size files (Some (schema_name.now, document_name.now)))) }
 {
     let bytes = match load(alloc, shelf, schema_name.as_str(), LIMIT) {
         Ok(bytes) => bytes,
@@ -131,11 +144,17 @@ pub(crate) fn work<F: Shelf>(alloc: Global, words: &Words, shelf: &mut F) -> Res
     ensures later { F.faults shelf.old ≤ F.faults shelf.new }
     ensures rises { F.given shelf.old ≤ F.given shelf.new }
 
-    ensures reply { IfOk result (Replies (F.held shelf.old) (answer words.now) (F.faults shelf.old) (F.faults shelf.new)) }
+    ensures reply { IfOk result (Replies (F.held shelf.old) (answer words.now)
+        (F.faults shelf.old) (F.faults shelf.new)) }
     ensures line { IfOk result (λ a. IsLineOf (words_spec.command words.now) a.status a.line) }
     ensures out { IfOk result (λ a. IsOutOf a.status a.out) }
-    ensures large { IfOk result (λ a. a.status ≡ Status.TooLarge → F.given shelf.old + spec.limit + 1 ≤ F.given shelf.new) }
-    ensures whole { IfOk result (λ a. is_printed a.status ≡ true → WhereTold (F.held shelf.old) (λ files. F.given shelf.new ≡ F.given shelf.old + read_size files (words_spec.command words.now))) }
+    ensures large { IfOk result (λ a.
+        a.status ≡ Status.TooLarge → F.given shelf.old + spec.limit + 1 ≤ F.given shelf.new) }
+    ensures whole { IfOk result (λ a.
+        is_printed a.status ≡ true →
+        WhereTold (F.held shelf.old) (λ files.
+        F.given shelf.new ≡
+        F.given shelf.old + read_size files (words_spec.command words.now))) }
 {
     let Some((schema_name, document_name)) = command(words.as_slice()) else {
         return Answer::not_built(alloc);

@@ -67,7 +67,9 @@ fn read_piece<F: Shelf>(
     ensures end { IfOk result (λ n. n ≡ 0 → IsAtEnd (F.rest shelf.new)) }
     ensures given { IfOk result (λ n. F.given shelf.new ≡ F.given shelf.old + n) }
 
-    ensures cause { IfErr result (λ e. PieceFails e (F.faults shelf.old) (F.faults shelf.new) (F.given shelf.old) (F.given shelf.new)) }
+    ensures cause { IfErr result (λ e.
+        PieceFails e (F.faults shelf.old) (F.faults shelf.new) (F.given shelf.old)
+        (F.given shelf.new)) }
 {
     let count = shelf.read(buf)?;
     bytes.extend_from_slice(&buf[..count])?;
@@ -88,7 +90,9 @@ fn read_rest<F: Shelf>(alloc: Global, shelf: &mut F, limit: u64) -> Result<Vec<u
     ensures size { IfOk result (λ b. length b.items ≤ limit) }
     ensures given { IfOk result (λ b. F.given shelf.new ≡ F.given shelf.old + length b.items) }
 
-    ensures cause { IfErr result (λ e. ReadFails e (F.rest shelf.old) limit (F.faults shelf.old) (F.faults shelf.new) (F.given shelf.old) (F.given shelf.new)) }
+    ensures cause { IfErr result (λ e.
+        ReadFails e (F.rest shelf.old) limit (F.faults shelf.old) (F.faults shelf.new)
+        (F.given shelf.old) (F.given shelf.new)) }
 {
     let mut bytes = Vec::new(alloc);
     let mut buf = [0u8; PIECE];
@@ -117,17 +121,22 @@ pub fn load<F: Shelf>(
     ensures size { IfOk result (λ b. length b ≤ limit) }
     ensures given { IfOk result (λ b. F.given shelf.new ≡ F.given shelf.old + length b) }
 
-    ensures failed { IsErrOf result LoadFault.Failed → LoadFails (F.held shelf.old) name.now (F.faults shelf.old) (F.faults shelf.new) }
+    ensures failed { IsErrOf result LoadFault.Failed →
+        LoadFails (F.held shelf.old) name.now (F.faults shelf.old) (F.faults shelf.new) }
     ensures large { IsErrOf result LoadFault.TooLarge → F.given shelf.new ≡ F.given shelf.old + limit + 1 }
     ensures over { IsErrOf result LoadFault.TooLarge → IsOverLimit (F.held shelf.old) name.now limit }
-    ensures large_alone { F.given shelf.new ≡ F.given shelf.old + limit + 1 → IsErrOf result LoadFault.TooLarge ⊎ IsErrOf result LoadFault.Memory }
+    ensures large_alone { F.given shelf.new ≡ F.given shelf.old + limit + 1 →
+        IsErrOf result LoadFault.TooLarge ⊎ IsErrOf result LoadFault.Memory }
 
     // What comes of a file whose content is told.
     ensures missing { IsMissing (F.held shelf.old) name.now → IsErrOf result LoadFault.Failed }
     ensures missing_faults { IsMissing (F.held shelf.old) name.now → F.faults shelf.new ≡ F.faults shelf.old }
     ensures missing_given { IsMissing (F.held shelf.old) name.now → F.given shelf.new ≡ F.given shelf.old }
-    ensures whole { HoldsUpTo (F.held shelf.old) name.now limit → ¬ Rose (F.faults shelf.old) (F.faults shelf.new) → IsOkUnless result LoadFault.Memory }
-    ensures refused { HoldsMoreThan (F.held shelf.old) name.now limit → ¬ Rose (F.faults shelf.old) (F.faults shelf.new) → IsErrOf result LoadFault.TooLarge ⊎ IsErrOf result LoadFault.Memory }
+    ensures whole { HoldsUpTo (F.held shelf.old) name.now limit →
+        ¬ Rose (F.faults shelf.old) (F.faults shelf.new) → IsOkUnless result LoadFault.Memory }
+    ensures refused { HoldsMoreThan (F.held shelf.old) name.now limit →
+        ¬ Rose (F.faults shelf.old) (F.faults shelf.new) →
+        IsErrOf result LoadFault.TooLarge ⊎ IsErrOf result LoadFault.Memory }
 
     // The shelf after any answer.
     ensures held { F.held shelf.new ≡ F.held shelf.old }

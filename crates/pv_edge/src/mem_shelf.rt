@@ -50,7 +50,16 @@ impl MemShelf {
 
     pub fn new(alloc: Global, piece: usize) -> MemShelf
         requires { 0 < piece }
-        ensures { result ≡ record { held = []; rest = []; given = 0; faults = 0; piece = piece; calls = 0; failing = [] } }
+        ensures { result ≡ record {
+          held = [];
+          rest = [];
+          given = 0;
+          faults = 0;
+          piece = piece;
+          calls =
+              0;
+          failing = [];
+        } }
     {
         MemShelf {
             alloc,
@@ -68,7 +77,10 @@ impl MemShelf {
     /// Holds one more file.
     #[tactic(auto, using(crate::proofs::HeldLemmas::pushes))]
     pub fn put(&mut self, name: Text, content: Bytes) -> Result<(), PutFault>
-        ensures ok { OnOk result (self.new ≡ record self.old { held = self.old.held ++ (name, content) ∷ [] }) }
+        ensures ok { OnOk result (self.new ≡ record self.old {
+          held = self.old.held ++
+              (name, content) ∷ [];
+        }) }
         ensures taken { IsErrOf result PutFault.NameTaken ↔ IsSome (file self.old.held name) }
         ensures err { OnErr result (self.new ≡ self.old) }
     {
@@ -99,7 +111,8 @@ impl MemShelf {
 fn place_of(files: &IndexMap<String, Bytes>, name: &str) -> Option<usize>
     ensures none { IfNone result (file (held_in files.now.entries) name.now ≡ None) }
     ensures within { IfSome result (λ i. i < length files.now.entries) }
-    ensures content { IfSome result (λ i. file (held_in files.now.entries) name.now ≡ Some (content_at files.now.entries i)) }
+    ensures content { IfSome result (λ i.
+        file (held_in files.now.entries) name.now ≡ Some (content_at files.now.entries i)) }
 {
     files.get_index_of(name)
 }
@@ -146,7 +159,12 @@ impl Shelf for MemShelf {
     ghost faults = { λ m. m.faults };
 
     fn pick(&mut self, name: &str) -> Result<(), Failed>
-        ensures kept { self.new ≡ record self.old { rest = self.new.rest; faults = self.new.faults; calls = self.new.calls } }
+        ensures kept { self.new ≡ record self.old {
+          rest = self.new.rest;
+          faults = self.new.faults;
+          calls =
+              self.new.calls;
+        } }
         ensures counted { self.old.calls < 2 ^ 64 - 1 → self.new.calls ≡ self.old.calls + 1 }
 
         ensures picked { OnOk result (file self.old.held name.now ≡ Some self.new.rest) }
@@ -155,8 +173,10 @@ impl Shelf for MemShelf {
         ensures missing { IsNone (file self.old.held name.now) → IsErr result }
         ensures missing_faults { IsNone (file self.old.held name.now) → self.new.faults ≡ self.old.faults }
         ensures due { is_due self.old.failing self.old.calls ≡ true → IsErr result }
-        ensures due_faults { OnErr result (IsSome (file self.old.held name.now) → self.new.faults ≡ one_more self.old.faults) }
-        ensures succeeds { is_due self.old.failing self.old.calls ≡ false → IsSome (file self.old.held name.now) → IsOk result }
+        ensures due_faults { OnErr result (IsSome
+            (file self.old.held name.now) → self.new.faults ≡ one_more self.old.faults) }
+        ensures succeeds { is_due self.old.failing self.old.calls ≡ false → IsSome (file self.old.held name.now) →
+            IsOk result }
         ensures nothing { OnErr result (self.new.rest ≡ []) }
         ensures later { self.old.faults ≤ self.new.faults }
     {
@@ -178,7 +198,13 @@ impl Shelf for MemShelf {
     fn read(&mut self, buf: &mut [u8]) -> Result<usize, Failed>
         requires room { 0 < length buf.old }
         requires fits { self.old.given + length buf.old < 2 ^ 64 }
-        ensures kept { self.new ≡ record self.old { rest = self.new.rest; given = self.new.given; faults = self.new.faults; calls = self.new.calls } }
+        ensures kept { self.new ≡ record self.old {
+          rest = self.new.rest;
+          given = self.new.given;
+          faults =
+              self.new.faults;
+          calls = self.new.calls;
+        } }
         ensures counted { self.old.calls < 2 ^ 64 - 1 → self.new.calls ≡ self.old.calls + 1 }
 
         ensures count { IfOk result (λ n. n ≡ min (min (length self.old.rest) (length buf.old)) self.old.piece) }
@@ -190,7 +216,12 @@ impl Shelf for MemShelf {
         ensures no_fault { OnOk result (self.new.faults ≡ self.old.faults) }
 
         ensures due { IsErr result ↔ (is_due self.old.failing self.old.calls ≡ true) }
-        ensures err { OnErr result (self.new ≡ record self.old { faults = one_more self.old.faults; calls = self.new.calls }) }
+        ensures err { OnErr result
+            (self.new ≡ record self.old {
+              faults = one_more self.old.faults;
+              calls =
+                  self.new.calls;
+            }) }
         ensures later { self.old.faults ≤ self.new.faults }
     {
         let fails = self.failing.contains(&self.calls);

@@ -33,7 +33,15 @@ impl MemSink {
     /// The memory for `room` bytes is taken here, and writes take none.
     pub fn new(alloc: Global, piece: usize, room: usize) -> Result<MemSink, Memory>
         requires { 0 < piece }
-        ensures { IfOk result (λ sink. sink ≡ record { taken = []; piece = piece; room = room; faults = 0; calls = 0; failing = [] }) }
+        ensures { IfOk result (λ sink.
+            sink ≡ record {
+              taken = [];
+              piece = piece;
+              room = room;
+              faults = 0;
+              calls = 0;
+              failing = [];
+            }) }
     {
         Ok(MemSink {
             bytes: Vec::with_capacity(alloc, room)?,
@@ -74,14 +82,27 @@ impl Sink for MemSink {
         requires { 0 < length piece.now }
         ensures counted { self.old.calls < 2 ^ 64 - 1 → self.new.calls ≡ self.old.calls + 1 }
 
-        ensures count { IfOk result (λ n. n ≡ min (min (length piece.now) self.old.piece) (self.old.room - length self.old.taken)) }
-        ensures bytes { IfOk result (λ n. self.new ≡ record self.old { taken = self.old.taken ++ take n piece.now; calls = self.new.calls }) }
+        ensures count { IfOk result (λ n.
+            n ≡ min (min (length piece.now) self.old.piece)
+            (self.old.room - length self.old.taken)) }
+        ensures bytes { IfOk result (λ n.
+            self.new ≡ record self.old {
+              taken = self.old.taken ++ take n piece.now;
+              calls =
+                  self.new.calls;
+            }) }
         ensures some { IfOk result (λ n. 0 < n) }
 
         ensures due { is_due self.old.failing self.old.calls ≡ true → IsErr result }
         ensures full { self.old.room ≤ length self.old.taken → IsErr result }
-        ensures succeeds { is_due self.old.failing self.old.calls ≡ false → length self.old.taken < self.old.room → IsOk result }
-        ensures err { OnErr result (self.new ≡ record self.old { faults = one_more self.old.faults; calls = self.new.calls }) }
+        ensures succeeds { is_due self.old.failing self.old.calls ≡ false → length self.old.taken < self.old.room →
+            IsOk result }
+        ensures err { OnErr result
+            (self.new ≡ record self.old {
+              faults = one_more self.old.faults;
+              calls =
+                  self.new.calls;
+            }) }
         ensures later { self.old.faults ≤ self.new.faults }
     {
         let fails = self.failing.contains(&self.calls);
