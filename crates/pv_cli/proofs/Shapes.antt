@@ -1,5 +1,5 @@
 -- What an answer to a document has on its streams.
-use Rattle.std.proofs.Common.{◌≡◌, ℕ, Bool, true, false, List, [], length, Some, None, refl, sym, ap, ◌∙◌, subst}
+use Rattle.std.proofs.Common.{◌≡◌, ℕ, true, false, List, length, Some, None, refl, ap, ◌∙◌, subst}
 use Rattle.std.specs.Prelude.{Option, Result, Ok, Err, ℤ}
 use Rattle.pv_number.specs.WrittenIntegers.{integer}
 use Rattle.pv_json_grammar.specs.Values.{document}
@@ -16,13 +16,12 @@ use Rattle.pv_cli.specs.Running.{is_printed}
 use Rattle.pv_cli.specs.Schemas.{schema_of}
 use Rattle.pv_cli.specs.Steps.{DecidesSchema, outcome_of}
 use Rattle.pv_cli.specs.declared.working.SchemaStep.{SchemaStep}
-use Rattle.pv_cli.specs.declared.working.SchemaStep.TheVariants.{Served, Answered}
-use Rattle.pv_cli.specs.Documents.{refused, json_errors, int_type_errors, printed, not_built, int_number, int_at, int_answer, any_answer, of_tree, of_reading, of_document}
+use Rattle.pv_cli.specs.declared.working.SchemaStep.TheVariants.{Answered}
+use Rattle.pv_cli.specs.Documents.{refused, json_errors, int_type_errors, printed, not_built, int_number, int_at, int_answer, of_tree, of_reading, of_document}
 use Rattle.pv_cli.specs.Lines.{IsLineOf, IsOutOf}
 use Rattle.pv_cli.specs.declared.answer.Answer.{Answer}
 use Rattle.pv_cli.specs.declared.schema.Schema.{Schema}
 use Rattle.pv_cli.specs.declared.schema.Schema.TheVariants as schema
-use Rattle.pv_cli.specs.declared.status.Status.{Status}
 use Rattle.pv_cli.specs.declared.status.Status.TheVariants as status
 
 -- its line and its output are those of its status, and it tells of no file

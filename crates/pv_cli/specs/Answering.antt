@@ -1,5 +1,5 @@
 -- The answer to words, where it is told which files are held. The first step that refuses decides.
-use Rattle.std.specs.Prelude.{ℕ, if◌then◌else◌, nat_le, List, [], ◌∷◌, length, Option, Some, None, Result, Ok, Err}
+use Rattle.std.specs.Prelude.{ℕ, if◌then◌else◌, nat_le, List, length, Option, Some, None, Result, Ok, Err}
 use Rattle.pv_tree.specs.declared.Tree.{Tree}
 use Rattle.pv_json_grammar.specs.Values.{document}
 use Rattle.pv_edge.specs.Files.{file}

@@ -1,5 +1,5 @@
 -- What is answered to a document under a schema.
-use Rattle.std.specs.Prelude.{ℕ, List, [], ◌∷◌, ◌++◌, length, codes, ℤ, Option, Some, None, Result, Ok, Err}
+use Rattle.std.specs.Prelude.{ℕ, List, [], ◌∷◌, length, codes, ℤ, Option, Some, None, Result, Ok, Err}
 use Rattle.std.specs.Fmt.{signed_decimal}
 use Rattle.pv_number.specs.WrittenIntegers.{integer}
 use Rattle.pv_tree.specs.Plain.{plain}

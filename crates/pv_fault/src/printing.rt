@@ -84,8 +84,7 @@ fn write_escaped_pieces(pieces: &[Piece<'_>], out: &mut ByteBuf) -> Result<(), M
 /// The type's text and the location, each behind its key.
 #[tactic(auto, using(pv_notation::proofs::Fronts::fronts))]
 fn write_type_and_loc(name: &str, loc: &Loc, out: &mut ByteBuf) -> Result<(), Memory>
-    ensures ok { OnOk result (out.new ≡ out.old ++
-        (member_text (codes "type", quoted name.now) ++ 44 ∷ member_text (codes "loc", loc_text loc.now))) }
+    ensures ok { OnOk result (out.new ≡ out.old ++ (member_text (codes "type", quoted name.now) ++ 44 ∷ member_text (codes "loc", loc_text loc.now))) }
     ensures err { OnErr result (IsFront out.old out.new) }
 {
     write_key("type", out)?;
@@ -99,8 +98,7 @@ fn write_type_and_loc(name: &str, loc: &Loc, out: &mut ByteBuf) -> Result<(), Me
 /// The message behind its key.
 #[tactic(auto, using(pv_notation::proofs::Fronts::fronts))]
 fn write_message_member(message: &[Piece<'_>], out: &mut ByteBuf) -> Result<(), Memory>
-    ensures ok { OnOk result (out.new ≡ out.old ++
-        member_text (codes "msg", quoted (flat_map piece_text message.now))) }
+    ensures ok { OnOk result (out.new ≡ out.old ++ member_text (codes "msg", quoted (flat_map piece_text message.now))) }
     ensures err { OnErr result (IsFront out.old out.new) }
 {
     write_key("msg", out)?;
@@ -124,8 +122,7 @@ fn write_input_member(input: &Tree, out: &mut ByteBuf) -> Result<(), Memory>
 /// The context behind a comma and its key, where there is one.
 #[tactic(auto, using(pv_notation::proofs::Fronts::fronts))]
 fn write_context(members: &[Member<'_>], out: &mut ByteBuf) -> Result<(), Memory>
-    ensures ok { OnOk result (out.new ≡ out.old ++
-        flat_map (λ m. 44 ∷ m) (map member_text (context_member (map key_and_json members.now)))) }
+    ensures ok { OnOk result (out.new ≡ out.old ++ flat_map (λ m. 44 ∷ m) (map member_text (context_member (map key_and_json members.now)))) }
     ensures err { OnErr result (IsFront out.old out.new) }
 {
     if members.is_empty() {

@@ -72,8 +72,7 @@ pub(crate) fn around<'a>(
     value: Piece<'a>,
     after: &'a str,
 ) -> Wording<'a>
-    ensures { printed_by result ≡
-        about name.now (before.now ++ (piece_text value.entry ++ after.now)) key.now (piece_json value.entry) }
+    ensures { printed_by result ≡ about name.now (before.now ++ (piece_text value.entry ++ after.now)) key.now (piece_json value.entry) }
 {
     Wording {
         name,
@@ -100,8 +99,7 @@ pub(crate) fn ending_in<'a>(
     key: &'a str,
     value: Piece<'a>,
 ) -> Wording<'a>
-    ensures { printed_by result ≡
-        about name.now (before.now ++ piece_text value.entry) key.now (piece_json value.entry) }
+    ensures { printed_by result ≡ about name.now (before.now ++ piece_text value.entry) key.now (piece_json value.entry) }
 {
     around(name, before, key, value, "")
 }
@@ -114,8 +112,7 @@ pub(crate) fn length<'a>(
     bound: u64,
     word: &'a str,
 ) -> Wording<'a>
-    ensures { printed_by result ≡
-        about name.now (before.now ++ counted bound word.now) key.now (decimal bound) }
+    ensures { printed_by result ≡ about name.now (before.now ++ counted bound word.now) key.now (decimal bound) }
 {
     let value = Piece::Count(bound);
     Wording {

@@ -136,8 +136,7 @@ fn object(alloc: Global, nesting: usize, s: &[u8]) -> Result<(Tree, &[u8]), Read
 #[cycle(value)]
 #[tactic(auto, using(crate::proofs::Steps::members_step), unfolding(pv_json_grammar::specs::Values::members))]
 fn members(alloc: Global, nesting: usize, s: &[u8]) -> Result<(Tree, &[u8]), ReadError>
-    ensures { Gives (λ x. (x.0, x.1.now)) result
-        (spec.members (spec.value nesting) (length s.now) [] s.now) }
+    ensures { Gives (λ x. (x.0, x.1.now)) result (spec.members (spec.value nesting) (length s.now) [] s.now) }
 {
     let mut all = Building::new(alloc);
     let mut rest = s;

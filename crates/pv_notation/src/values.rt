@@ -47,8 +47,7 @@ fn open_list(name: &str, out: &mut ByteBuf) -> Result<(), Memory>
 /// The same, and the first item, which is a text, with its comma.
 #[tactic(auto, using(crate::proofs::Fronts::fronts))]
 fn open_list_of(name: &str, first: &Text, out: &mut ByteBuf) -> Result<(), Memory>
-    ensures ok { OnOk result (out.new ≡ out.old ++
-        (123 ∷ quoted name.now ++ 58 ∷ 91 ∷ quoted first.now ++ 44 ∷ [])) }
+    ensures ok { OnOk result (out.new ≡ out.old ++ (123 ∷ quoted name.now ++ 58 ∷ 91 ∷ quoted first.now ++ 44 ∷ [])) }
     ensures err { OnErr result (IsFront out.old out.new) }
 {
     open_list(name, out)?;
@@ -70,8 +69,7 @@ fn write_tagged(name: &str, text: &[u8], out: &mut ByteBuf) -> Result<(), Memory
 
 #[tactic(auto, using(crate::proofs::Fronts::fronts))]
 fn write_hex(bytes: &[u8], out: &mut ByteBuf) -> Result<(), Memory>
-    ensures ok { OnOk result (out.new ≡ out.old ++
-        tagged (codes "bytes") (34 ∷ flat_map hex_byte bytes.now ++ 34 ∷ [])) }
+    ensures ok { OnOk result (out.new ≡ out.old ++ tagged (codes "bytes") (34 ∷ flat_map hex_byte bytes.now ++ 34 ∷ [])) }
     ensures err { OnErr result (IsFront out.old out.new) }
 {
     open_tag("bytes", out)?;
@@ -185,8 +183,7 @@ fn write_entries(entries: &[(Value, Value)], out: &mut ByteBuf) -> Result<(), Me
 #[cycle(value)]
 #[tactic(auto, using(crate::proofs::Fronts::fronts))]
 fn write_tagged_values(name: &str, values: &[Value], out: &mut ByteBuf) -> Result<(), Memory>
-    ensures ok { OnOk result (out.new ≡ out.old ++
-        (123 ∷ quoted name.now ++ 58 ∷ 91 ∷ joined (map notation values.now) ++ 93 ∷ 125 ∷ [])) }
+    ensures ok { OnOk result (out.new ≡ out.old ++ (123 ∷ quoted name.now ++ 58 ∷ 91 ∷ joined (map notation values.now) ++ 93 ∷ 125 ∷ [])) }
     ensures err { OnErr result (IsFront out.old out.new) }
 {
     open_list(name, out)?;

@@ -173,8 +173,7 @@ impl Decimal<'_> {
     pub(crate) fn leading_zeros(&self) -> usize
         ensures within { result ≤ length (digits self.now) }
         ensures zeros { run (digits self.now) 0 result ≡ 0 }
-        ensures first { result < length (digits self.now) →
-            0 < spec.digit (slice_index_or (digits self.now) result 0) }
+        ensures first { result < length (digits self.now) → 0 < spec.digit (slice_index_or (digits self.now) result 0) }
     {
         for place in 0..self.len() {
             if self.digit(place) != 0 {
@@ -188,8 +187,7 @@ impl Decimal<'_> {
     #[tactic(auto, using(crate::proofs::Runs::kept_less, crate::proofs::Runs::all_kept))]
     pub(crate) fn significant_len(&self) -> usize
         ensures within { result ≤ length (digits self.now) }
-        ensures value { spec.natural (digits self.now) ≡
-            run (digits self.now) 0 result * 10 ^ (length (digits self.now) - result) }
+        ensures value { spec.natural (digits self.now) ≡ run (digits self.now) 0 result * 10 ^ (length (digits self.now) - result) }
         ensures last { 0 < result → 0 < spec.digit (slice_index_or (digits self.now) (result - 1) 0) }
     {
         let mut kept = self.len();

@@ -13,8 +13,7 @@ pub(crate) const FAR: i128 = 1 << 100;
 #[tactic(auto, using(crate::proofs::Runs::rank_within, crate::proofs::Runs::rank_past, crate::proofs::Runs::digit_below))]
 fn digit_of_rank(digits: &[u8], rank: usize) -> u8
     ensures small { result ≤ 9 }
-    ensures value { run digits.now 0 (length digits.now - rank) ≡
-        run digits.now 0 (length digits.now - (rank + 1)) * 10 + result }
+    ensures value { run digits.now 0 (length digits.now - rank) ≡ run digits.now 0 (length digits.now - (rank + 1)) * 10 + result }
 {
     if rank < digits.len() {
         digit_value(digits[digits.len() - 1 - rank])

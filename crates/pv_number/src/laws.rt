@@ -13,8 +13,7 @@ use std::cmp::Ordering;
 
 /// The scanner goes over a number of the grammar to its end, and goes over nothing else.
 pub fn numbers_are_scanned()
-    ensures complete { (text rest : List ℕ) → IsNumber text → Stops rest →
-        number_len (text ++ rest) ≡ Ok (length text) }
+    ensures complete { (text rest : List ℕ) → IsNumber text → Stops rest → number_len (text ++ rest) ≡ Ok (length text) }
     ensures sound { (bs : List ℕ) (n : ℕ) → number_len bs ≡ Ok n → IsNumber (take n bs) × (n ≤ length bs) }
     ensures whole { (bs : List ℕ) → (IsTrue (is_number bs) ↔ IsNumber bs) }
     ensures front { (bs : List ℕ) (n : ℕ) → number_len bs ≡ Ok n → IsTrue (is_number (take n bs)) }

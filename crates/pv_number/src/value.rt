@@ -23,8 +23,7 @@ fn times_power(value: u128, power: u32) -> Option<u128>
 }
 
 fn signed_value(negative: bool, magnitude: u128) -> Option<i128>
-    ensures { SomeIff result (FitsSigned w128 (spec.signed negative magnitude))
-        (spec.signed negative magnitude) }
+    ensures { SomeIff result (FitsSigned w128 (spec.signed negative magnitude)) (spec.signed negative magnitude) }
 {
     if negative {
         0i128.checked_sub_unsigned(magnitude)
@@ -45,8 +44,7 @@ fn scaled(decimal: &Decimal, kept: usize, power: u32) -> Option<i128>
 /// The exponent of the last of the first `kept` digits. It is the true one wherever it is small.
 fn exponent_at(decimal: &Decimal, kept: usize) -> i128
     requires { kept ≤ length (digits decimal.now) }
-    ensures { result ≡ capped (exponent_of decimal.now.exponent)
-        +ℤ pos (length (digits decimal.now) - kept) -ℤ pos (length decimal.now.fraction.now) }
+    ensures { result ≡ capped (exponent_of decimal.now.exponent) +ℤ pos (length (digits decimal.now) - kept) -ℤ pos (length decimal.now.fraction.now) }
 {
     let written = exponent_difference(&decimal.exponent, &Exponent::zero());
     written + (decimal.len() - kept) as i128 - decimal.fraction.len() as i128

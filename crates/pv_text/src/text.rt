@@ -36,7 +36,7 @@ impl Text {
         ensures { IfOk result (λ t. t ≡ bytes.now) }
     {
         let Ok(s) = str::from_utf8(bytes) else {
-            unreachable!()
+            return Err(Memory);
         };
         Text::from_str(alloc, s)
     }

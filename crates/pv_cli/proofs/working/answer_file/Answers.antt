@@ -1,9 +1,5 @@
-use Rattle.std.proofs.Common.{◌≡◌, ℕ, List, Some, refl}
-use Rattle.pv_cli.specs.Answering.{of_file}
+use Rattle.std.proofs.Common.{Some, refl}
 use Rattle.pv_cli.specs.Documents.{of_document}
-use Rattle.pv_cli.specs.Lines.{IsLineOf, IsOutOf}
-use Rattle.pv_cli.specs.Running.{Replies}
-use Rattle.pv_cli.specs.declared.status.Status.TheVariants as status
 use Rattle.pv_cli.proofs.Replies.{loaded, decided, ok_of}
 use Rattle.pv_cli.proofs.Shapes.{document_settled}
 use Rattle.pv_cli.proofs.working.answer_file.Goals as goal

@@ -1,4 +1,4 @@
-use Rattle.std.proofs.Common.{◌≡◌, ℕ, List, Some, length, sym, ap, ◌∙◌}
+use Rattle.std.proofs.Common.{Some, length, sym}
 use Rattle.pv_json_grammar.specs.Values.{document}
 use Rattle.pv_edge.specs.Files.{file}
 use Rattle.pv_cli.specs.Answering.{of_file, of_schema}
