@@ -93,7 +93,7 @@ fn containers_nest_128_deep(rt: HostRuntime) {
 #[test]
 fn documents_are_told_as_trees(rt: HostRuntime) -> Result<(), Fail> {
     let document =
-        b" {\"a\":1,\"\\u00e9\\ud83d\\ude00\\n\":-0.50E+3,\"a\":[null,true,\"\xc3\xa9\"]} ";
+        b" {\"a\":1,\"\\u00E9\\ud83D\\uDE00\\n\":-0.50E+3,\"a\":[null,true,\"\xc3\xa9\"]} ";
     let Tree::Object(members) = read(rt.alloc(), document)? else {
         panic!(rt; "no object");
     };
