@@ -1,0 +1,45 @@
+ghost use Rattle.std.specs.Prelude.{◌≡◌};
+ghost use Rattle.pv_rules.specs.Settings.{plain};
+
+use pv_text::Text;
+
+/// What is done with the keys of an object that no field takes.
+#[derive(Clone, Copy, Debug, PartialEq, Eq)]
+pub enum ExtraBehavior {
+    Ignore,
+    Allow,
+    Forbid,
+}
+
+/// What holds for all nodes under a model or a typed dict that configures it.
+#[derive(Drop)]
+pub struct Settings {
+    pub title: Option<Text>,
+    pub strict: bool,
+    pub extra_fields_behavior: ExtraBehavior,
+    pub populate_by_name: bool,
+    pub loc_by_alias: bool,
+    pub validate_default: bool,
+    pub str_strip_whitespace: bool,
+    pub str_min_length: Option<u64>,
+    pub str_max_length: Option<u64>,
+}
+
+impl Settings {
+    /// The settings of nodes that nothing configures.
+    pub fn plain() -> Settings
+        ensures { result ≡ plain }
+    {
+        Settings {
+            title: None,
+            strict: false,
+            extra_fields_behavior: ExtraBehavior::Ignore,
+            populate_by_name: false,
+            loc_by_alias: true,
+            validate_default: false,
+            str_strip_whitespace: false,
+            str_min_length: None,
+            str_max_length: None,
+        }
+    }
+}
