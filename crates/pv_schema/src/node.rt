@@ -1,0 +1,39 @@
+use pv_rules::{GatherRule, ScalarRule};
+use pv_text::Text;
+use sqlite_items::{Boxed, Items};
+
+/// A node of a schema: its name where it has one, whether it is strict where that is said, and
+/// what its type asks for.
+#[cycle(node)]
+#[derive(Drop)]
+pub struct Node {
+    pub own_ref: Option<Text>,
+    pub strict: Option<bool>,
+    pub body: Body,
+}
+
+/// What a node asks for, by its type.
+#[cycle(node)]
+#[derive(Drop)]
+pub enum Body {
+    /// A type without child schemas.
+    Scalar(ScalarRule),
+    /// A list, a set or a frozenset.
+    Sequence {
+        rule: GatherRule,
+        items_schema: Option<Boxed<Node>>,
+    },
+    /// A tuple with a schema for each position.
+    Tuple {
+        rule: GatherRule,
+        items_schema: Items<Node>,
+    },
+    Dict {
+        rule: GatherRule,
+        keys_schema: Option<Boxed<Node>>,
+        values_schema: Option<Boxed<Node>>,
+    },
+    Nullable {
+        schema: Boxed<Node>,
+    },
+}

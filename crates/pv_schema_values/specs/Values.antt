@@ -1,0 +1,189 @@
+-- What a tree stands for under a key of a schema, where it holds no schema: nothing where it may not stand there.
+use Rattle.std.specs.Prelude.{ℕ, ◌+◌, ◌^◌, ◌-◌, Bool, true, false, not, ◌&&◌, nat_le, if◌then◌else◌, List, [], ◌∷◌, length, codes, ℤ, pos, negsuc, Option, None, Some, is_some, bytes_eq}
+use Rattle.std.specs.List.{list_any}
+use Rattle.std.specs.Ordering.{int_eq}
+use Rattle.pv_number.specs.WrittenIntegers.{integer}
+use Rattle.pv_tree.specs.declared.Tree.{Tree, out-Tree}
+use Rattle.pv_tree.specs.declared.Tree.TheOpen.{Tree-F}
+use Rattle.pv_rules.specs.declared.Literal.{Literal}
+use Rattle.pv_rules.specs.declared.Literal.TheVariants as literal
+use Rattle.pv_rules.specs.declared.EnumMember.{EnumMember}
+use Rattle.pv_rules.specs.declared.SubType.{SubType}
+use Rattle.pv_rules.specs.declared.SubType.TheVariants as sub_type
+use Rattle.pv_schema_values.specs.Levels.{text_at, flag_at, int_at, items_at}
+use Rattle.pv_schema_values.specs.declared.value_kind.ValueKind.{ValueKind}
+use Rattle.pv_schema_values.specs.declared.value_kind.ValueKind.TheVariants as value
+
+unfoldable pub text_of : Tree → Option (List ℕ)
+text_of t = text_at (out-Tree t)
+
+unfoldable pub flag_of : Tree → Option Bool
+flag_of t = flag_at (out-Tree t)
+
+unfoldable pub int_of : Tree → Option ℤ
+int_of t = int_at (out-Tree t)
+
+-- a number from `least` to `most`
+abbrev pub natural_within : ℕ → ℕ → Option ℤ → Option ℕ
+natural_within least most None = None
+natural_within least most (Some (pos n)) = if nat_le least n && nat_le n most then Some n else None
+natural_within least most (Some (negsuc n)) = None
+
+-- a count: an integer from 0 to 4,294,967,295
+unfoldable pub count_of : Tree → Option ℕ
+count_of t = natural_within 0 4294967295 (int_of t)
+
+-- an integer of at least 1
+abbrev pub positive : Option ℤ → Option ℤ
+positive None = None
+positive (Some (pos n)) = if nat_le 1 n then Some (pos n) else None
+positive (Some (negsuc n)) = None
+
+unfoldable pub positive_of : Tree → Option ℤ
+positive_of t = positive (int_of t)
+
+-- a version of UUIDs: from 1 to 8
+unfoldable pub version_of : Tree → Option ℕ
+version_of t = natural_within 1 8 (int_of t)
+
+abbrev pub is_false : Option Bool → Bool
+is_false None = false
+is_false (Some b) = not b
+
+abbrev pub is_word : List ℕ → Option (List ℕ) → Bool
+is_word word None = false
+is_word word (Some text) = bytes_eq text word
+
+abbrev pub sub_type_by : Option (List ℕ) → Option SubType
+sub_type_by None = None
+sub_type_by (Some text) = if bytes_eq text (codes "int") then Some sub_type.Int else (if bytes_eq text (codes "str") then Some sub_type.Text else None)
+
+unfoldable pub sub_type_of : Tree → Option SubType
+sub_type_of t = sub_type_by (text_of t)
+
+abbrev pub put_first : {Y : Type 0} → Option Y → Option (List Y) → Option (List Y)
+put_first None ys = None
+put_first (Some y) None = None
+put_first (Some y) (Some ys) = Some (y ∷ ys)
+
+-- all that the items stand for, where each stands for something
+abbrev pub all_of : {X Y : Type 0} → (X → Option Y) → List X → Option (List Y)
+all_of f [] = Some []
+all_of f (x ∷ xs) = put_first (f x) (all_of f xs)
+
+-- the same of one item or more
+abbrev pub some_of : {X Y : Type 0} → (X → Option Y) → List X → Option (List Y)
+some_of f [] = None
+some_of f (x ∷ xs) = put_first (f x) (all_of f xs)
+
+abbrev pub some_in : {Y : Type 0} → (Tree → Option Y) → Option (List Tree) → Option (List Y)
+some_in f None = None
+some_in f (Some ts) = some_of f ts
+
+-- a list of texts that is not empty
+unfoldable pub texts_of : Tree → Option (List (List ℕ))
+texts_of t = some_in text_of (items_at (out-Tree t))
+
+abbrev pub int_literal : Option ℤ → Option Literal
+int_literal None = None
+int_literal (Some n) = Some (literal.Int n)
+
+-- null, a flag, an int or a text
+abbrev pub literal_at : Tree-F Tree → Option Literal
+literal_at Tree-F.Null = Some literal.Null
+literal_at (Tree-F.Bool b) = Some (literal.Flag b)
+literal_at (Tree-F.Num lexeme) = int_literal (integer lexeme)
+literal_at (Tree-F.Str text) = Some (literal.Text text)
+literal_at (Tree-F.Array ts) = None
+literal_at (Tree-F.Object ms) = None
+
+unfoldable pub literal_of : Tree → Option Literal
+literal_of t = literal_at (out-Tree t)
+
+unfoldable pub literals_of : Tree → Option (List Literal)
+literals_of t = some_in literal_of (items_at (out-Tree t))
+
+-- the value of an enum's member: an int or a text
+abbrev pub member_value_at : Tree-F Tree → Option Literal
+member_value_at Tree-F.Null = None
+member_value_at (Tree-F.Bool b) = None
+member_value_at (Tree-F.Num lexeme) = int_literal (integer lexeme)
+member_value_at (Tree-F.Str text) = Some (literal.Text text)
+member_value_at (Tree-F.Array ts) = None
+member_value_at (Tree-F.Object ms) = None
+
+unfoldable pub member_value_of : Tree → Option Literal
+member_value_of t = member_value_at (out-Tree t)
+
+abbrev pub member_by : Option (List ℕ) → Option Literal → Option EnumMember
+member_by None value = None
+member_by (Some name) None = None
+member_by (Some name) (Some value) = Some (record { name = name; value = value })
+
+-- a pair of a name and a value
+abbrev pub member_in : Option (List Tree) → Option EnumMember
+member_in None = None
+member_in (Some []) = None
+member_in (Some (name ∷ [])) = None
+member_in (Some (name ∷ value ∷ [])) = member_by (text_of name) (member_value_of value)
+member_in (Some (name ∷ value ∷ more ∷ ts)) = None
+
+unfoldable pub member_of : Tree → Option EnumMember
+member_of t = member_in (items_at (out-Tree t))
+
+-- no two of them are equal
+abbrev pub are_distinct : {X : Type 0} → (X → X → Bool) → List X → Bool
+are_distinct eq [] = true
+are_distinct eq (x ∷ xs) = not (list_any (eq x) xs) && are_distinct eq xs
+
+abbrev pub names_in : List EnumMember → List (List ℕ)
+names_in [] = []
+names_in (m ∷ ms) = m.name ∷ names_in ms
+
+abbrev pub int_first : Literal → List ℤ → List ℤ
+int_first literal.Null ns = ns
+int_first (literal.Flag b) ns = ns
+int_first (literal.Int n) ns = n ∷ ns
+int_first (literal.Text text) ns = ns
+
+abbrev pub ints_in : List EnumMember → List ℤ
+ints_in [] = []
+ints_in (m ∷ ms) = int_first m.value (ints_in ms)
+
+abbrev pub text_first : Literal → List (List ℕ) → List (List ℕ)
+text_first literal.Null ts = ts
+text_first (literal.Flag b) ts = ts
+text_first (literal.Int n) ts = ts
+text_first (literal.Text text) ts = text ∷ ts
+
+abbrev pub texts_in : List EnumMember → List (List ℕ)
+texts_in [] = []
+texts_in (m ∷ ms) = text_first m.value (texts_in ms)
+
+-- no name stands twice, and no value
+unfoldable pub are_members : List EnumMember → Bool
+are_members ms = are_distinct bytes_eq (names_in ms) && (are_distinct int_eq (ints_in ms) && are_distinct bytes_eq (texts_in ms))
+
+abbrev pub where_distinct : Option (List EnumMember) → Option (List EnumMember)
+where_distinct None = None
+where_distinct (Some ms) = if are_members ms then Some ms else None
+
+-- the members of an enum: one pair or more, names distinct, values distinct
+unfoldable pub members_of : Tree → Option (List EnumMember)
+members_of t = where_distinct (some_in member_of (items_at (out-Tree t)))
+
+-- whether a tree may stand for a value of this kind
+unfoldable pub is_value : ValueKind → Tree → Bool
+is_value value.Anything t = true
+is_value value.Text t = is_some (text_of t)
+is_value value.Flag t = is_some (flag_of t)
+is_value value.False t = is_false (flag_of t)
+is_value value.Count t = is_some (count_of t)
+is_value value.Int t = is_some (int_of t)
+is_value value.AtLeastOne t = is_some (positive_of t)
+is_value value.Version t = is_some (version_of t)
+is_value value.Engine t = is_word (codes "rust-regex") (text_of t)
+is_value value.SubType t = is_some (sub_type_of t)
+is_value value.Texts t = is_some (texts_of t)
+is_value value.Literals t = is_some (literals_of t)
+is_value value.Members t = is_some (members_of t)

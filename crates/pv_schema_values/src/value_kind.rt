@@ -1,0 +1,28 @@
+/// What may stand under a key that holds no schema.
+#[derive(Clone, Copy, Debug, PartialEq, Eq)]
+pub enum ValueKind {
+    Anything,
+    Text,
+    Flag,
+    /// The flag false alone.
+    False,
+    /// An integer from 0 to 4,294,967,295.
+    Count,
+    /// An integer of 128 bits.
+    Int,
+    /// An integer of 128 bits that is at least 1.
+    AtLeastOne,
+    /// An integer from 1 to 8.
+    Version,
+    /// The name of the one engine of patterns, `rust-regex`.
+    Engine,
+    /// `int` or `str`.
+    SubType,
+    /// A list of texts that is not empty.
+    Texts,
+    /// A list of null, flags, ints and texts that is not empty.
+    Literals,
+    /// A list of pairs of a name and a value that is not empty. Names are distinct texts, and
+    /// values distinct ints or texts.
+    Members,
+}
