@@ -3,4 +3,4 @@ use Rattle.std.specs.Prelude.{ℕ, if◌then◌else◌, List, [], ◌∷◌, Opt
 
 abbrev pub find : {X : Type 0} → List ℕ → List (List ℕ × X) → Option X
 find key [] = None
-find key (m ∷ ms) = if bytes_eq m.0 key then Some m.1 else find key ms
+find key (m ∷ ms) = if bytes_eq key m.0 then Some m.1 else find key ms

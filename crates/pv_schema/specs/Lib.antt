@@ -1,2 +1,5 @@
 pub mod Find
 pub mod Table
+pub mod Rows
+pub mod Checking
+pub mod Answers

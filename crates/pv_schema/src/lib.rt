@@ -1,10 +1,17 @@
 //! Core schemas: nodes with their rules, and their reading from JSON trees.
 #![tactic(auto)]
 
+mod check_fault;
+mod checking;
 mod fault;
+mod finding;
+mod fitting;
 mod kind;
+mod listing;
 mod node;
 mod node_type;
+mod refusing;
+mod table;
 
 pub use fault::{Code, Refusal, ShapeCode};
 pub use kind::Kind;

@@ -1,0 +1,36 @@
+-- What the checks of a schema answer: nothing is wrong, or the first of all that is wrong.
+use Rattle.std.specs.Prelude.{◌≡◌, List, [], ◌∷◌, Option, None, Some, Result, Ok, Err}
+use Rattle.pv_tree.specs.declared.Step.{Step}
+use Rattle.pv_schema.specs.Checking.{under}
+use Rattle.pv_schema.specs.declared.fault.Refusal.{Refusal}
+use Rattle.pv_schema.specs.declared.check_fault.CheckFault.{CheckFault}
+use Rattle.pv_schema.specs.declared.check_fault.CheckFault.TheVariants as fault
+
+abbrev pub first : {X : Type 0} → List X → Option X
+first [] = None
+first (x ∷ xs) = Some x
+
+-- want of memory says nothing
+abbrev pub FailsBy : CheckFault → List Refusal → Type 0
+FailsBy fault.Memory all = Unit {0}
+FailsBy (fault.Refused r) all = first all ≡ Some r
+
+abbrev pub Answers : {T : Type 0} → Result T CheckFault → List Refusal → Type 0
+Answers (Ok x) all = all ≡ []
+Answers (Err e) all = FailsBy e all
+
+-- a value, or why there is none
+abbrev pub IsRefused : {T : Type 0} → CheckFault → Result T Refusal → Type 0
+IsRefused fault.Memory found = Unit {0}
+IsRefused (fault.Refused r) found = found ≡ Err r
+
+abbrev pub Gives : {T : Type 0} → Result T CheckFault → Result T Refusal → Type 0
+Gives (Ok x) found = found ≡ Ok x
+Gives (Err e) found = IsRefused e found
+
+-- a refusal seen from the whole, where it is one step inside
+abbrev pub IsUnder : Step → CheckFault → CheckFault → Type 0
+IsUnder step fault.Memory fault.Memory = Unit {0}
+IsUnder step fault.Memory (fault.Refused s) = ⊥
+IsUnder step (fault.Refused r) fault.Memory = Unit {0}
+IsUnder step (fault.Refused r) (fault.Refused s) = s ≡ under step r

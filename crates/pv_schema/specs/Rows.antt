@@ -1,0 +1,8 @@
+-- The rows of the code's table, as data.
+use Rattle.std.specs.Prelude.{List, [], ◌∷◌}
+use Rattle.pv_schema.specs.Table as table
+use Rattle.pv_schema.specs.declared.table.Row.{Row}
+
+abbrev pub rows_in : List Row → table.Rows
+rows_in [] = []
+rows_in (r ∷ rs) = (r.key.now, record { kind = r.kind; required = r.required }) ∷ rows_in rs
