@@ -22,7 +22,7 @@ use Rattle.pv_schema.specs.declared.node_type.NodeType.{NodeType}
 use Rattle.pv_schema.specs.declared.node_type.NodeType.TheVariants as node
 
 module _ {X : Type 0} (v : X → Tree) where
-  abbrev mapped : List (List ℕ × X) → List (List ℕ × Tree)
+  abbrev pub mapped : List (List ℕ × X) → List (List ℕ × Tree)
   mapped ms = map (λ m. (m.0, v m.1)) ms
 
   find_at : (b : Bool) (x : X) (o : Option X) (p : Option Tree) → p ≡ option_map v o
@@ -30,7 +30,7 @@ module _ {X : Type 0} (v : X → Tree) where
   find_at true x o p e = refl
   find_at false x o p e = e
 
-  find_mapped : (key : List ℕ) (ms : List (List ℕ × X)) → find key (mapped ms) ≡ option_map v (find key ms)
+  pub find_mapped : (key : List ℕ) (ms : List (List ℕ × X)) → find key (mapped ms) ≡ option_map v (find key ms)
   find_mapped key [] = refl
   find_mapped key (m ∷ ms) = find_at (bytes_eq key m.0) m.1 (find key ms) (find key (mapped ms)) (find_mapped key ms)
 
@@ -47,9 +47,9 @@ module _ {X : Type 0} (v : X → Tree) where
       ap (λ more. if is_absent ms r then at_key r.0 (Shape MissingKey) ∷ more else more) (missing_mapped ms rs)
       ∙ ap (λ b. if b then at_key r.0 (Shape MissingKey) ∷ missing_in (mapped ms) rs else missing_in (mapped ms) rs) (absent_mapped ms r)
 
-  type_mapped : (k : Tree → Checked) (o : Option X) → type_in v (λ p. k (v p)) o ≡ type_in (λ y. y) k (option_map v o)
-  type_mapped k None = refl
-  type_mapped k (Some x) = refl
+  pub type_mapped : (o : Option X) → type_in v o ≡ type_in (λ y. y) (option_map v o)
+  type_mapped None = refl
+  type_mapped (Some x) = refl
 
   misfit_mapped : (k : Tree → Checked) (key : List ℕ) (fits : Tree → Tree → Bool) (a b : Option X)
       → misfit v (λ p. k (v p)) key fits a b ≡ misfit (λ y. y) k key fits (option_map v a) (option_map v b)
@@ -84,8 +84,8 @@ module _ {X : Type 0} (v : X → Tree) where
 
   object_mapped : (k : Tree → Checked) (ms : List (List ℕ × X)) → object_faults v (λ p. k (v p)) (Some ms) ≡ object_faults (λ y. y) k (Some (mapped ms))
   object_mapped k ms =
-      node_mapped k (type_in v (λ p. k (v p)) (find (codes "type") ms)) ms
-      ∙ ap (λ r. node_faults (λ y. y) k r (mapped ms)) (type_mapped k (find (codes "type") ms) ∙ ap (type_in (λ y. y) k) (sym (find_mapped (codes "type") ms)))
+      node_mapped k (type_in v (find (codes "type") ms)) ms
+      ∙ ap (λ r. node_faults (λ y. y) k r (mapped ms)) (type_mapped (find (codes "type") ms) ∙ ap (type_in (λ y. y)) (sym (find_mapped (codes "type") ms)))
 
   items_mapped : (k : Tree → Checked) (i : ℕ) (xs : List X) → item_faults v (λ p. k (v p)) i xs ≡ item_faults (λ y. y) k i (map v xs)
   items_mapped k i [] = refl
@@ -132,7 +132,7 @@ schema_by (Tree-F.Bool b) = refl
 schema_by (Tree-F.Num l) = refl
 schema_by (Tree-F.Str s) = refl
 schema_by (Tree-F.Array ts) = refl
-schema_by (Tree-F.Object ms) = node_is (type_in (λ t. t) checked (find (codes "type") ms)) ms
+schema_by (Tree-F.Object ms) = node_is (type_in (λ t. t) (find (codes "type") ms)) ms
 
 schemas_by : (x : Tree-F Tree) → list_faults (λ t. t) checked (items_at x) ≡ schemas_level x
 schemas_by Tree-F.Null = refl
@@ -150,17 +150,17 @@ pub schemas_opens : (t : Tree) → schemas_faults t ≡ schemas_level (out-Tree 
 unfolding schemas_faults
 schemas_opens t = ap (λ c. c.schemas) (checked_opens t) ∙ schemas_by (out-Tree t)
 
-object_opened : (ms : List (List ℕ × Tree)) → out-Tree (tree.Object ms) ≡ Tree-F.Object ms
+pub object_opened : (ms : List (List ℕ × Tree)) → out-Tree (tree.Object ms) ≡ Tree-F.Object ms
 object_opened ms = ap out-Tree (sym (rolls-Object ms)) ∙ out-roll-Tree (Tree-F.Object ms)
 
-array_opened : (ts : List Tree) → out-Tree (tree.Array ts) ≡ Tree-F.Array ts
+pub array_opened : (ts : List Tree) → out-Tree (tree.Array ts) ≡ Tree-F.Array ts
 array_opened ts = ap out-Tree (sym (rolls-Array ts)) ∙ out-roll-Tree (Tree-F.Array ts)
 
 pub object_answers : {T : Type 0} (r : Result T CheckFault) (t : Tree) (ms all : List (List ℕ × Tree)) → t ≡ tree.Object ms → all ≡ ms
-    → Answers r (members_faults (type_in (λ u. u) checked (find (codes "type") all)) all) → Answers r (schema_faults t)
+    → Answers r (members_faults (type_in (λ u. u) (find (codes "type") all)) all) → Answers r (schema_faults t)
 object_answers r t ms all e f a =
     subst (Answers r)
-    (ap (λ os. members_faults (type_in (λ u. u) checked (find (codes "type") os)) os) f
+    (ap (λ os. members_faults (type_in (λ u. u) (find (codes "type") os)) os) f
     ∙ sym (schema_opens t ∙ ap schema_level (ap out-Tree e ∙ object_opened ms)))
     a
 

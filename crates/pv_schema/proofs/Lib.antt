@@ -1,2 +1,3 @@
 pub mod CheckOpens
 pub mod TableLemmas
+pub mod MakeOpens

@@ -110,12 +110,14 @@ place_fits place items = is_below (count_of place) (items_size items)
 unfoldable pub members_fit : Tree → Tree → Bool
 members_fit s members = are_of (sub_type_of s) (members_of members)
 
--- one level, by what is wrong with the trees inside
-module _ {X : Type 0} (tree : X → Tree) (inner : X → Checked) where
+-- the type of a node, by what stands under `type`
+module _ {X : Type 0} (tree : X → Tree) where
   abbrev pub type_in : Option X → Result NodeType Refusal
   type_in None = Err (at_key (codes "type") (Shape MissingKey))
   type_in (Some x) = type_named (text_of (tree x))
 
+-- one level, by what is wrong with the trees inside
+module _ {X : Type 0} (tree : X → Tree) (inner : X → Checked) where
   -- two values that are both there and do not fit
   abbrev pub misfit : List ℕ → (Tree → Tree → Bool) → Option X → Option X → List Refusal
   misfit key fits None other = []
@@ -137,7 +139,7 @@ module _ {X : Type 0} (tree : X → Tree) (inner : X → Checked) where
 
   abbrev pub object_faults : Option (List (List ℕ × X)) → List Refusal
   object_faults None = refused (Shape NotObject) ∷ []
-  object_faults (Some ms) = node_faults (type_in (find (codes "type") ms)) ms
+  object_faults (Some ms) = node_faults (type_in tree (find (codes "type") ms)) ms
 
   abbrev pub item_faults : ℕ → List X → List Refusal
   item_faults i [] = []
@@ -198,7 +200,7 @@ schema_level (Tree-F.Bool b) = refused (Shape NotObject) ∷ []
 schema_level (Tree-F.Num lexeme) = refused (Shape NotObject) ∷ []
 schema_level (Tree-F.Str text) = refused (Shape NotObject) ∷ []
 schema_level (Tree-F.Array ts) = refused (Shape NotObject) ∷ []
-schema_level (Tree-F.Object ms) = members_faults (type_in (λ t. t) checked (find (codes "type") ms)) ms
+schema_level (Tree-F.Object ms) = members_faults (type_in (λ t. t) (find (codes "type") ms)) ms
 
 abbrev pub schemas_level : Tree-F Tree → List Refusal
 schemas_level Tree-F.Null = refused (Shape BadValue) ∷ []

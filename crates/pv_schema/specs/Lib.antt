@@ -2,4 +2,5 @@ pub mod Find
 pub mod Table
 pub mod Rows
 pub mod Checking
+pub mod Making
 pub mod Answers

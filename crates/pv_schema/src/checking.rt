@@ -92,7 +92,7 @@ fn check_keys(
 
 #[cycle(check)]
 fn check_members(alloc: Global, members: &[(Text, Tree)]) -> Result<(), CheckFault>
-    ensures { Answers result (spec.members_faults (spec.type_in (λ t. t) spec.checked (found.find (codes "type") members.now)) members.now) }
+    ensures { Answers result (spec.members_faults (spec.type_in (λ t. t) (found.find (codes "type") members.now)) members.now) }
 {
     let node_type = type_of(alloc, members)?;
     check_keys(alloc, node_type, members)?;

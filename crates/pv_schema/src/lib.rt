@@ -6,11 +6,14 @@ mod checking;
 mod fault;
 mod finding;
 mod fitting;
+mod keys;
 mod kind;
 mod listing;
+mod making;
 mod node;
 mod node_type;
 mod refusing;
+mod rules;
 mod table;
 
 pub use fault::{Code, Refusal, ShapeCode};

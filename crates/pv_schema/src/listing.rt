@@ -4,6 +4,7 @@ ghost use Rattle.std.specs.Prelude.{◌≡◌};
 ghost use Rattle.std.specs.List.{list_any};
 ghost use Rattle.std.specs.Option.{option_copied};
 ghost use Rattle.std.specs.Prelude.{bytes_eq, codes};
+ghost use Rattle.std.specs.Result.{result_ok};
 ghost use Rattle.pv_schema.specs.Find as found;
 ghost use Rattle.pv_schema.specs.Table as spec;
 ghost use Rattle.pv_schema.specs.Rows.{rows_in};
@@ -91,11 +92,24 @@ fn type_named(alloc: Global, name: Option<&Text>) -> Result<NodeType, CheckFault
 
 /// The type of the node that has these members.
 pub(crate) fn type_of(alloc: Global, members: &[(Text, Tree)]) -> Result<NodeType, CheckFault>
-    ensures { Gives result (wrong.type_in (λ t. t) wrong.checked (found.find (codes "type") members.now)) }
+    ensures { Gives result (wrong.type_in (λ t. t) (found.find (codes "type") members.now)) }
 {
     match find(members, "type") {
         Some(tree) => type_named(alloc, text_of(tree)),
         None => Err(refused_at(alloc, "type", Code::Shape(ShapeCode::MissingKey))),
+    }
+}
+
+/// The type of the node that has these members, where it is built.
+pub(crate) fn type_found(members: &[(Text, Tree)]) -> Option<NodeType>
+    ensures { result ≡ result_ok (wrong.type_in (λ t. t) (found.find (codes "type") members.now)) }
+{
+    match find(members, "type") {
+        Some(tree) => match text_of(tree) {
+            Some(name) => built(name.as_str()),
+            None => None,
+        },
+        None => None,
     }
 }
 

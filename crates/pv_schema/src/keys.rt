@@ -1,0 +1,132 @@
+//! Single values under the keys of a node.
+
+ghost use Rattle.std.specs.Prelude.{◌≡◌, IfOk};
+ghost use Rattle.pv_schema_values.specs.Values as value;
+ghost use Rattle.pv_schema.specs.Find.{find};
+ghost use Rattle.pv_schema.specs.Making.{or_empty, read};
+
+use crate::finding::find;
+use pv_rules::{EnumMember, Literal, SubType};
+use pv_schema_values::{
+    count_of, flag_of, int_of, literals_of, members_of, positive_of, sub_type_of, text_of,
+    texts_of, version_of,
+};
+use pv_text::{Memory, Text};
+use pv_tree::{Names, Tree};
+use sqlite_items::Items;
+use std::alloc::Global;
+
+pub(crate) fn flag_at(members: &[(Text, Tree)], key: &str) -> Option<bool>
+    ensures { result ≡ read value.flag_of (find key.now members.now) }
+{
+    match find(members, key) {
+        Some(tree) => flag_of(tree),
+        None => None,
+    }
+}
+
+pub(crate) fn int_at(members: &[(Text, Tree)], key: &str) -> Option<i128>
+    ensures { result ≡ read value.int_of (find key.now members.now) }
+{
+    match find(members, key) {
+        Some(tree) => int_of(tree),
+        None => None,
+    }
+}
+
+pub(crate) fn positive_at(members: &[(Text, Tree)], key: &str) -> Option<i128>
+    ensures { result ≡ read value.positive_of (find key.now members.now) }
+{
+    match find(members, key) {
+        Some(tree) => positive_of(tree),
+        None => None,
+    }
+}
+
+pub(crate) fn count_at(members: &[(Text, Tree)], key: &str) -> Option<u64>
+    ensures { result ≡ read value.count_of (find key.now members.now) }
+{
+    match find(members, key) {
+        Some(tree) => count_of(tree),
+        None => None,
+    }
+}
+
+pub(crate) fn version_at(members: &[(Text, Tree)], key: &str) -> Option<u64>
+    ensures { result ≡ read value.version_of (find key.now members.now) }
+{
+    match find(members, key) {
+        Some(tree) => version_of(tree),
+        None => None,
+    }
+}
+
+pub(crate) fn sub_type_at(members: &[(Text, Tree)], key: &str) -> Option<SubType>
+    ensures { result ≡ read value.sub_type_of (find key.now members.now) }
+{
+    match find(members, key) {
+        Some(tree) => sub_type_of(tree),
+        None => None,
+    }
+}
+
+pub(crate) fn text_at(
+    alloc: Global,
+    members: &[(Text, Tree)],
+    key: &str,
+) -> Result<Option<Text>, Memory>
+    ensures { IfOk result (λ found. found ≡ read value.text_of (find key.now members.now)) }
+{
+    match find(members, key) {
+        Some(tree) => match text_of(tree) {
+            Some(text) => Ok(Some(text.share(alloc)?)),
+            None => Ok(None),
+        },
+        None => Ok(None),
+    }
+}
+
+pub(crate) fn texts_at(
+    alloc: Global,
+    members: &[(Text, Tree)],
+    key: &str,
+) -> Result<Option<Names>, Memory>
+    ensures { IfOk result (λ found. found ≡ read value.texts_of (find key.now members.now)) }
+{
+    match find(members, key) {
+        Some(tree) => texts_of(alloc, tree),
+        None => Ok(None),
+    }
+}
+
+pub(crate) fn literals_at(
+    alloc: Global,
+    members: &[(Text, Tree)],
+    key: &str,
+) -> Result<Items<Literal>, Memory>
+    ensures { IfOk result (λ found. found ≡ or_empty (read value.literals_of (find key.now members.now))) }
+{
+    let Some(tree) = find(members, key) else {
+        return Ok(Items::new(alloc));
+    };
+    match literals_of(alloc, tree)? {
+        Some(literals) => Ok(literals),
+        None => Ok(Items::new(alloc)),
+    }
+}
+
+pub(crate) fn enum_members_at(
+    alloc: Global,
+    members: &[(Text, Tree)],
+    key: &str,
+) -> Result<Items<EnumMember>, Memory>
+    ensures { IfOk result (λ found. found ≡ or_empty (read value.members_of (find key.now members.now))) }
+{
+    let Some(tree) = find(members, key) else {
+        return Ok(Items::new(alloc));
+    };
+    match members_of(alloc, tree)? {
+        Some(values) => Ok(values),
+        None => Ok(Items::new(alloc)),
+    }
+}
