@@ -13,8 +13,8 @@ use Rattle.pv_schema.specs.Find.{find}
 use Rattle.pv_schema.specs.Checking.{type_in}
 use Rattle.pv_schema.specs.Making.{Made, made, make_step, node_of, nodes_of, node_named, read, body_in, members_node, object_node, list_nodes, node_level, nodes_level}
 use Rattle.pv_schema.specs.declared.fault.Refusal.{Refusal}
-use Rattle.pv_schema.specs.declared.node.Node.{Node, roll-Node}
-use Rattle.pv_schema.specs.declared.node.Body.{Body}
+use Rattle.pv_node.specs.declared.Node.{Node, roll-Node}
+use Rattle.pv_node.specs.declared.Body.{Body}
 use Rattle.pv_schema.specs.declared.node_type.NodeType.{NodeType}
 use Rattle.pv_schema.proofs.CheckOpens.{mapped, find_mapped, type_mapped, object_opened, array_opened}
 

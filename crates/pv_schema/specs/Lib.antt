@@ -4,3 +4,4 @@ pub mod Rows
 pub mod Checking
 pub mod Making
 pub mod Answers
+pub mod Reading

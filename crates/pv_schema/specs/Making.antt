@@ -17,9 +17,9 @@ use Rattle.pv_schema_values.specs.Values.{text_of, flag_of, int_of, count_of, po
 use Rattle.pv_schema.specs.Find.{find}
 use Rattle.pv_schema.specs.Checking.{type_in}
 use Rattle.pv_schema.specs.declared.fault.Refusal.{Refusal}
-use Rattle.pv_schema.specs.declared.node.Node.{Node, roll-Node}
-use Rattle.pv_schema.specs.declared.node.Body.{Body}
-use Rattle.pv_schema.specs.declared.node.Body.TheVariants as body
+use Rattle.pv_node.specs.declared.Node.{Node, roll-Node}
+use Rattle.pv_node.specs.declared.Body.{Body}
+use Rattle.pv_node.specs.declared.Body.TheVariants as body
 use Rattle.pv_schema.specs.declared.node_type.NodeType.{NodeType}
 use Rattle.pv_schema.specs.declared.node_type.NodeType.TheVariants as node
 

@@ -1,4 +1,7 @@
-//! Core schemas: nodes with their rules, and their reading from JSON trees.
+//! Core schemas: their reading from JSON trees.
+//!
+//! A tree is first checked against the table of keys, which finds the first of all that is wrong,
+//! and then the schema is made of it.
 #![tactic(auto)]
 
 mod check_fault;
@@ -10,13 +13,13 @@ mod keys;
 mod kind;
 mod listing;
 mod making;
-mod node;
 mod node_type;
+mod reading;
 mod refusing;
 mod rules;
 mod table;
 
-pub use fault::{Code, Refusal, ShapeCode};
+pub use fault::{Code, Refusal, SchemaFault, ShapeCode};
 pub use kind::Kind;
-pub use node::{Body, Node};
 pub use node_type::NodeType;
+pub use reading::read_schema;

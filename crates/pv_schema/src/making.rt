@@ -11,7 +11,7 @@ ghost use Rattle.pv_schema.specs.Making.{or_empty, read};
 
 use crate::keys::{flag_at, literals_at, version_at};
 use crate::listing::type_found;
-use crate::node::{Body, Node};
+use pv_node::{Body, Node};
 use crate::node_type::NodeType;
 use crate::rules::{bytes_rule, enum_rule, gather_rule, int_rule, str_rule, tuple_rule, url_rule};
 use pv_rules::{Collection, ScalarRule};
