@@ -3,7 +3,7 @@ use Rattle.std.proofs.Common.{◌≡◌, ◌&&◌, Bool, true, false, List, [], 
 use Rattle.std.specs.List.{AllByRecursion}
 use lib.Pointwise.{pointwise}
 use Rattle.pv_equality.specs.Equality.{mutual_inclusion}
-use Rattle.pv_equality.proofs.Tests.{both, first, second}
+use Rattle.pv_equality.proofs.Bools.{both, first, second}
 use Rattle.pv_equality.proofs.Inclusion.{In, at, Included, told, tell}
 
 module _ {X : Type 0} (f : X → X → Bool) where
@@ -43,7 +43,7 @@ module _ {X : Type 0} (f : X → X → Bool) where
       let k = told f xs ys h in
       tell f ys xs (record {
         among = λ y i. let x = k.back y i in (x.0, x.1, at Symm xs x.0 a x.1 y x.2);
-        back = λ x i. let y = k.among x i in (y.0, y.1, at Symm xs x a i y.0 y.2)
+        back = λ x i. let y = k.among x i in (y.0, y.1, at Symm xs x a i y.0 y.2);
       })
 
   pub sets_trans : (xs : List X) → AllByRecursion Trans xs → (ys zs : List X) → mutual_inclusion f xs ys ≡ true → mutual_inclusion f ys zs ≡ true → mutual_inclusion f xs zs ≡ true
@@ -52,5 +52,5 @@ module _ {X : Type 0} (f : X → X → Bool) where
       let l = told f ys zs g in
       tell f xs zs (record {
         among = λ x i. let y = k.among x i in let z = l.among y.0 y.1 in (z.0, z.1, at Trans xs x a i y.0 z.0 y.2 z.2);
-        back = λ z i. let y = l.back z i in let x = k.back y.0 y.1 in (x.0, x.1, at Trans xs x.0 a x.1 y.0 z x.2 y.2)
+        back = λ z i. let y = l.back z i in let x = k.back y.0 y.1 in (x.0, x.1, at Trans xs x.0 a x.1 y.0 z x.2 y.2);
       })

@@ -4,7 +4,7 @@ use Rattle.std.specs.List.{list_all, list_any, AllByRecursion}
 use Rattle.std.proofs.lemmas.List.Folds.{list_all-map}
 use lib.Pointwise.{pointwise}
 use Rattle.pv_equality.specs.Equality.{mutual_inclusion}
-use Rattle.pv_equality.proofs.Tests.{both, first, second, on_left, on_right, either}
+use Rattle.pv_equality.proofs.Bools.{both, first, second, on_left, on_right, either}
 
 abbrev pub In : {X : Type 0} → X → List X → Type 0
 In x [] = ⊥
@@ -38,8 +38,8 @@ module _ {X : Type 0} (p : X → Bool) where
   any_in [] a = cc
   any_in (x ∷ xs) a =
       elim (either (p x) (list_any p xs) a) [
-        inl e ↦ (x, inl refl, e)
-      | inr b ↦ let k = any_in xs b in (k.0, inr k.1, k.2)
+        | inl e ↦ (x, inl refl, e)
+        | inr b ↦ let k = any_in xs b in (k.0, inr k.1, k.2)
       ]
 
   pub in_any : (xs : List X) (x : X) → In x xs → p x ≡ true → list_any p xs ≡ true
@@ -56,7 +56,7 @@ module _ {A B : Type 0} (r : A → B → Bool) where
   pub told : (xs : List A) (ys : List B) → mutual_inclusion r xs ys ≡ true → Included xs ys
   told xs ys h = record {
     among = λ x i. any_in (r x) ys (all_in (λ a. list_any (r a) ys) xs x (first (list_all (λ a. list_any (r a) ys) xs) (list_all (λ b. list_any (λ a. r a b) xs) ys) h) i);
-    back = λ y i. any_in (λ a. r a y) xs (all_in (λ b. list_any (λ a. r a b) xs) ys y (second (list_all (λ a. list_any (r a) ys) xs) (list_all (λ b. list_any (λ a. r a b) xs) ys) h) i)
+    back = λ y i. any_in (λ a. r a y) xs (all_in (λ b. list_any (λ a. r a b) xs) ys y (second (list_all (λ a. list_any (r a) ys) xs) (list_all (λ b. list_any (λ a. r a b) xs) ys) h) i);
   }
 
   pub tell : (xs : List A) (ys : List B) → Included xs ys → mutual_inclusion r xs ys ≡ true

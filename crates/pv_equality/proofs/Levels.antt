@@ -12,7 +12,7 @@ use Rattle.pv_tree.specs.declared.Value.TheFolds.{ind-Value}
 use Rattle.pv_tree.specs.declared.AtomKind.{AtomKind}
 use Rattle.pv_tree.specs.declared.AtomKind.TheVariants.{Uuid, Url, Date, Time, DateTime, Decimal}
 use Rattle.pv_equality.specs.Equality.{Test, same, same_at, same_number, same_kind, flag_number, mutual_inclusion, same_entry, same_field, same_set, same_fields, same_dict, same_items}
-use Rattle.pv_equality.proofs.Tests.{and_assoc}
+use Rattle.pv_equality.proofs.Bools.{and_assoc}
 use Rattle.pv_equality.proofs.Inclusion.{inclusion_made}
 use Rattle.pv_equality.proofs.Equivalence.{Refl, Symm, Trans}
 use Rattle.pv_equality.proofs.SameLevels.{tests, same_levels, pointwise_map, inclusion_map}

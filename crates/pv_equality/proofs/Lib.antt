@@ -1,6 +1,6 @@
 pub mod Numbers
 pub mod HashableLevels
-pub mod Tests
+pub mod Bools
 pub mod SameLevels
 pub mod Pairs
 pub mod Inclusion

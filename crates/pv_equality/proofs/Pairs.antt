@@ -3,7 +3,7 @@ use Rattle.std.proofs.Common.{◌≡◌, ◌&&◌, ℕ, zero, suc, ◌+◌, ◌<
 use Rattle.std.proofs.lemmas.Bool.{and_left, and_right}
 use Rattle.std.proofs.lemmas.List.{take_all}
 use lib.Pointwise.{pointwise}
-use Rattle.pv_equality.proofs.Tests.{both, first, second}
+use Rattle.pv_equality.proofs.Bools.{both, first, second}
 
 module _ {A B : Type 0} (f : A → B → Bool) where
   one_more : (xs : List A) (ys : List B) (i : ℕ) (a : A) (b : B) → i < length xs → i < length ys

@@ -56,3 +56,13 @@ dict_of ds es r e = e ∙ sym (inclusion_map same_entry (λ (d : Value × Value)
 
 pub fields_of : (ds es : List (List ℕ × Value)) (r : Bool) → r ≡ mutual_inclusion (λ d e. bytes_eq d.0 e.0 && same d.1 e.1) ds es → r ≡ same_fields (map (λ d. (d.0, same d.1)) ds) es
 fields_of ds es r e = e ∙ sym (inclusion_map same_field (λ (d : List ℕ × Value). (d.0, same d.1)) ds es)
+
+abbrev pub by_field : List ℕ × Value → List ℕ × Test
+by_field d = (d.0, same d.1)
+
+-- a model's last test decides, where the others hold
+pub model_decided : (a b : Value) (c d : List ℕ) (fs gs : List (List ℕ × Value)) (s t : List (List ℕ)) (es ks : List (List ℕ × Value)) (r : Bool)
+    → a ≡ value.Model c fs s es → b ≡ value.Model d gs t ks → bytes_eq c d ≡ true → same_fields (map by_field fs) gs ≡ true → r ≡ same_fields (map by_field es) ks → r ≡ same a b
+model_decided a b c d fs gs s t es ks r p q h k l =
+    l ∙ sym (same_at_levels a b (Value-F.Model c fs s es) (Value-F.Model d gs t ks) (rolls-Model c fs s es ∙ sym p) (rolls-Model d gs t ks ∙ sym q)
+    ∙ (λ i. h i && k i && same_fields (map by_field es) ks))

@@ -15,7 +15,7 @@ use Rattle.pv_tree.specs.declared.AtomKind.{AtomKind}
 use Rattle.pv_tree.specs.declared.AtomKind.TheVariants.{Uuid, Url, Date, Time, DateTime, Decimal}
 use Rattle.pv_equality.specs.Equality.{Test, same, same_at, same_number, same_kind, flag_number, mutual_inclusion, same_entry, same_field}
 use Rattle.pv_equality.proofs.Numbers.{numbers_equiv}
-use Rattle.pv_equality.proofs.Tests.{both, first, second}
+use Rattle.pv_equality.proofs.Bools.{both, first, second}
 use Rattle.pv_equality.proofs.Inclusion.{each_so, inclusion_made}
 use Rattle.pv_equality.proofs.Equivalence.{Refl, Symm, Trans, items_refl, items_symm, items_trans, sets_refl, sets_symm, sets_trans}
 use Rattle.pv_equality.proofs.SameLevels.{tests, same_levels, pointwise_map, inclusion_map}
@@ -97,7 +97,7 @@ laws_of : {X : Type 0} (f : X → X → Bool) → IsEquivalence f → Laws f
 laws_of f e = record {
   reflexive = e.refl;
   symmetric = λ x y h. e.symm y x ∙ h;
-  transitive = λ x y z h k. e.congr x y z h ∙ k
+  transitive = λ x y z h k. e.congr x y z h ∙ k;
 }
 
 module _ {X : Type 0} (f : X → X → Bool) where

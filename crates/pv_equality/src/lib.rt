@@ -5,6 +5,8 @@ mod hashability;
 mod laws;
 mod leaves;
 mod sameness;
+#[cfg(test)]
+mod tests;
 
 pub use hashability::hashable;
 pub use laws::sameness_is_equivalence;

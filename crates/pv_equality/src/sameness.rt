@@ -189,7 +189,10 @@ pub fn same(a: &Value, b: &Value) -> bool
             _ => false,
         },
         Value::Model {
-            cls, fields, extra, ..
+            cls,
+            fields,
+            extra,
+            ..
         } => {
             let Value::Model {
                 cls: other_cls,
@@ -203,8 +206,10 @@ pub fn same(a: &Value, b: &Value) -> bool
             if cls != other_cls {
                 return false;
             }
-            same_fields(fields.as_slice(), other_fields.as_slice())
-                && same_fields(extra.as_slice(), other_extra.as_slice())
+            if !same_fields(fields.as_slice(), other_fields.as_slice()) {
+                return false;
+            }
+            same_fields(extra.as_slice(), other_extra.as_slice())
         }
         Value::Root { cls, value } => match b {
             Value::Root {

@@ -1,7 +1,7 @@
 use Rattle.pv_equality.specs.Equality as spec
 use Rattle.pv_equality.proofs.Pairs.{all_pairs, more, not_all}
-use Rattle.std.proofs.Common.{sym, ◌∙◌, rules}
-use Rattle.pv_equality.proofs.SameLevels.{items_of}
+use Rattle.std.proofs.Common.{map, sym, ◌∙◌, rules}
+use Rattle.pv_equality.proofs.SameLevels.{items_of, by_field, model_decided}
 use Rattle.pv_equality.proofs.sameness.+same.Goals as goal
 
 pub same_items-returns-then-not-same : goal.same_items-returns-then-not-same
@@ -16,3 +16,10 @@ same_items-loop-i-preserved t c =
 
 pub same_items-returns : goal.same_items-returns
 same_items-returns t c = items_of _ _ _ (all_pairs spec.same c.args.values.now c.args.others.now c.loop-i.i c.loop-i-test.false (search rules) c.loop-i.invariant)
+
+pub same-returns-else-not-same_fields : goal.same-returns-else-not-same_fields
+same-returns-else-not-same_fields t c =
+    model_decided c.args.a.now c.args.b.now c.in-Model.cls c.in-Model-b.other_cls c.in-Model.fields c.in-Model-b.other_fields c.in-Model.set c.in-Model-b.set c.in-Model.extra c.in-Model-b.other_extra
+    c.same_fields-in-Model.result c.in-Model.is c.in-Model-b.is (search rules)
+    ((λ i. spec.same_fields (map by_field (sym c.as_slice-in-Model.ensures i)) (sym c.as_slice-in-Model-2.ensures i)) ∙ sym c.same_fields.ensures ∙ c.if-not-same_fields.false)
+    (c.same_fields-in-Model.ensures ∙ (λ i. spec.same_fields (map by_field (c.as_slice-in-Model-3.ensures i)) (c.as_slice-in-Model-4.ensures i)))
