@@ -1,0 +1,9 @@
+pub mod Numbers
+pub mod HashableLevels
+pub mod Bools
+pub mod SameLevels
+pub mod Pairs
+pub mod Inclusion
+pub mod Equivalence
+pub mod Shapes
+pub mod Levels

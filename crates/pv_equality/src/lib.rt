@@ -1,0 +1,13 @@
+//! When two values are the same, and which values may be items of sets and keys of dicts.
+#![tactic(auto)]
+
+mod hashability;
+mod laws;
+mod leaves;
+mod sameness;
+#[cfg(test)]
+mod tests;
+
+pub use hashability::hashable;
+pub use laws::sameness_is_equivalence;
+pub use sameness::same;
