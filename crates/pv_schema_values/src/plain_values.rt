@@ -1,0 +1,36 @@
+//! Texts and flags.
+
+ghost use Rattle.std.specs.Prelude.{◌≡◌};
+ghost use Rattle.std.specs.Option.{option_copied};
+ghost use Rattle.pv_schema_values.specs.Values as spec;
+
+use pv_text::Text;
+use pv_tree::Tree;
+
+#[tactic(auto, unfolding(crate::specs::Values::text_of))]
+pub fn text_of(tree: &Tree) -> Option<&Text>
+    ensures { option_copied result ≡ spec.text_of tree.now }
+{
+    match tree {
+        Tree::Null => None,
+        Tree::Bool(_) => None,
+        Tree::Num(_) => None,
+        Tree::Str(text) => Some(text),
+        Tree::Array(_) => None,
+        Tree::Object(_) => None,
+    }
+}
+
+#[tactic(auto, unfolding(crate::specs::Values::flag_of))]
+pub fn flag_of(tree: &Tree) -> Option<bool>
+    ensures { result ≡ spec.flag_of tree.now }
+{
+    match tree {
+        Tree::Null => None,
+        Tree::Bool(flag) => Some(*flag),
+        Tree::Num(_) => None,
+        Tree::Str(_) => None,
+        Tree::Array(_) => None,
+        Tree::Object(_) => None,
+    }
+}
