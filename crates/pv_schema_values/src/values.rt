@@ -1,7 +1,6 @@
 //! Values of each kind.
 
 ghost use Rattle.std.specs.Prelude.{◌≡◌, IfOk, codes};
-ghost use Rattle.std.specs.Option.{option_copied};
 ghost use Rattle.pv_schema_values.specs.Values as spec;
 
 use crate::literals::literals_of;
@@ -11,7 +10,7 @@ use crate::plain_values::{flag_of, text_of};
 use crate::sub_types::sub_type_of;
 use crate::texts::texts_of;
 use crate::value_kind::ValueKind;
-use pv_text::{Memory, Text};
+use pv_text::Memory;
 use pv_tree::Tree;
 use std::alloc::Global;
 
@@ -24,10 +23,10 @@ fn is_false(flag: Option<bool>) -> bool
     }
 }
 
-fn is_engine(text: Option<&Text>) -> bool
-    ensures { result ≡ spec.is_word (codes "rust-regex") (option_copied text) }
+fn is_engine(tree: &Tree) -> bool
+    ensures { result ≡ spec.is_word (codes "rust-regex") (spec.text_of tree.now) }
 {
-    match text {
+    match text_of(tree) {
         None => false,
         Some(text) => text.as_str() == "rust-regex",
     }
@@ -47,7 +46,7 @@ pub fn is_value(alloc: Global, kind: ValueKind, tree: &Tree) -> Result<bool, Mem
         ValueKind::Int => Ok(int_of(tree).is_some()),
         ValueKind::AtLeastOne => Ok(positive_of(tree).is_some()),
         ValueKind::Version => Ok(version_of(tree).is_some()),
-        ValueKind::Engine => Ok(is_engine(text_of(tree))),
+        ValueKind::Engine => Ok(is_engine(tree)),
         ValueKind::SubType => Ok(sub_type_of(tree).is_some()),
         ValueKind::Texts => Ok(texts_of(alloc, tree)?.is_some()),
         ValueKind::Literals => Ok(literals_of(alloc, tree)?.is_some()),
