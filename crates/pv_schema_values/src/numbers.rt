@@ -49,13 +49,7 @@ fn positive(number: Option<i128>) -> Option<i128>
 {
     match number {
         None => None,
-        Some(n) => {
-            if n >= 1 {
-                Some(n)
-            } else {
-                None
-            }
-        }
+        Some(n) => { if n >= 1 { Some(n) } else { None } }
     }
 }
 

@@ -1,0 +1,61 @@
+//! Lists whose items are all of one kind.
+
+ghost use Rattle.std.specs.Prelude.{◌≡◌, IfOk, Option, List};
+ghost use Rattle.std.specs.Option.{option_copied};
+ghost use Rattle.pv_schema_values.specs.Levels.{items_at};
+ghost use Rattle.pv_schema_values.specs.Values as spec;
+ghost use Rattle.pv_tree.specs.declared.Tree.{Tree, out-Tree};
+
+use pv_text::Memory;
+use pv_tree::Tree;
+use sqlite_items::Items;
+use std::alloc::Global;
+
+/// What a tree may stand for by itself.
+pub(crate) trait FromTree: Drop + Sized {
+    ghost of: { Tree → Option Self };
+
+    /// `None` where the tree does not stand for such a value.
+    fn from_tree(alloc: Global, tree: &Tree) -> Result<Option<Self>, Memory>
+        ensures { IfOk result (λ found. found ≡ of tree.now) };
+}
+
+pub(crate) fn items_of(tree: &Tree) -> Option<&[Tree]>
+    ensures { option_copied result ≡ items_at (out-Tree tree.now) }
+{
+    match tree {
+        Tree::Null => None,
+        Tree::Bool(_) => None,
+        Tree::Num(_) => None,
+        Tree::Str(_) => None,
+        Tree::Array(items) => Some(items.as_slice()),
+        Tree::Object(_) => None,
+    }
+}
+
+fn some_of<T: FromTree>(alloc: Global, items: &[Tree]) -> Result<Option<Items<T>>, Memory>
+    ensures { IfOk result (λ found. found ≡ spec.some_of T.of items.now) }
+{
+    if items.is_empty() {
+        return Ok(None);
+    }
+    let mut all = Items::new(alloc);
+    for item in items {
+        let Some(value) = T::from_tree(alloc, item)? else {
+            return Ok(None);
+        };
+        all.push(value)?;
+    }
+    Ok(Some(all))
+}
+
+/// All that the items of a list stand for. It is `None` where the tree is no list, the list is empty or
+/// one of its items stands for nothing.
+pub(crate) fn some_in<T: FromTree>(alloc: Global, tree: &Tree) -> Result<Option<Items<T>>, Memory>
+    ensures { IfOk result (λ found. found ≡ spec.some_in T.of (items_at (out-Tree tree.now))) }
+{
+    match items_of(tree) {
+        None => Ok(None),
+        Some(items) => some_of(alloc, items),
+    }
+}

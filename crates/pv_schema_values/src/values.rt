@@ -1,0 +1,55 @@
+//! Values of each kind.
+
+ghost use Rattle.std.specs.Prelude.{◌≡◌, IfOk, codes};
+ghost use Rattle.pv_schema_values.specs.Values as spec;
+
+use crate::literals::literals_of;
+use crate::members::members_of;
+use crate::numbers::{count_of, int_of, positive_of, version_of};
+use crate::plain_values::{flag_of, text_of};
+use crate::sub_types::sub_type_of;
+use crate::texts::texts_of;
+use crate::value_kind::ValueKind;
+use pv_text::Memory;
+use pv_tree::Tree;
+use std::alloc::Global;
+
+fn is_false(flag: Option<bool>) -> bool
+    ensures { result ≡ spec.is_false flag }
+{
+    match flag {
+        None => false,
+        Some(flag) => !flag,
+    }
+}
+
+fn is_engine(tree: &Tree) -> bool
+    ensures { result ≡ spec.is_word (codes "rust-regex") (spec.text_of tree.now) }
+{
+    match text_of(tree) {
+        None => false,
+        Some(text) => text.as_str() == "rust-regex",
+    }
+}
+
+/// Whether a tree may stand for a value of this kind.
+#[tactic(auto, unfolding(crate::specs::Values::is_value))]
+pub fn is_value(alloc: Global, kind: ValueKind, tree: &Tree) -> Result<bool, Memory>
+    ensures { IfOk result (λ b. b ≡ spec.is_value kind tree.now) }
+{
+    match kind {
+        ValueKind::Anything => Ok(true),
+        ValueKind::Text => Ok(text_of(tree).is_some()),
+        ValueKind::Flag => Ok(flag_of(tree).is_some()),
+        ValueKind::False => Ok(is_false(flag_of(tree))),
+        ValueKind::Count => Ok(count_of(tree).is_some()),
+        ValueKind::Int => Ok(int_of(tree).is_some()),
+        ValueKind::AtLeastOne => Ok(positive_of(tree).is_some()),
+        ValueKind::Version => Ok(version_of(tree).is_some()),
+        ValueKind::Engine => Ok(is_engine(tree)),
+        ValueKind::SubType => Ok(sub_type_of(tree).is_some()),
+        ValueKind::Texts => Ok(texts_of(alloc, tree)?.is_some()),
+        ValueKind::Literals => Ok(literals_of(alloc, tree)?.is_some()),
+        ValueKind::Members => Ok(members_of(alloc, tree)?.is_some()),
+    }
+}
