@@ -1,0 +1,2 @@
+//! Lists, tuples, sets and dicts of what validation gave for their parts.
+#![tactic(auto)]
