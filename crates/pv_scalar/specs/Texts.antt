@@ -1,0 +1,50 @@
+-- Texts, and the bytes of texts. The lengths of texts count characters, those of bytes count bytes.
+use Rattle.std.specs.Prelude.{ℕ, Bool, nat_le, if◌then◌else◌, List, length, chars, Option, None, Some, unwrap_or, Result, Ok, Err}
+use Rattle.std.specs.Option.{option_or}
+use Rattle.std.specs.Str.{trim}
+use Rattle.pv_tree.specs.declared.Tree.{Tree, out-Tree}
+use Rattle.pv_tree.specs.declared.Tree.TheOpen.{Tree-F}
+use Rattle.pv_rules.specs.declared.StrRule.{StrRule}
+use Rattle.pv_rules.specs.declared.BytesRule.{BytesRule}
+use Rattle.pv_rules.specs.declared.Settings.{Settings}
+use Rattle.pv_fault.specs.declared.Grade.{Grade}
+use Rattle.pv_fault.specs.declared.Grade.TheVariants.{Lax, Strict, Exact}
+use Rattle.pv_fault.specs.declared.Kind.{Kind}
+use Rattle.pv_fault.specs.declared.Kind.TheVariants as kind
+use Rattle.pv_formats.specs.Patterns.{matches}
+use Rattle.pv_scalar.specs.Tests.{Graded, tested, unless, ◌orelse◌}
+
+-- a string as it stands, and what any other tree is
+abbrev pub text_at : Grade → Kind → Tree-F Tree → Graded (List ℕ)
+text_at grade wrong (Tree-F.Str text) = Ok (text, grade)
+text_at grade wrong Tree-F.Null = Err wrong
+text_at grade wrong (Tree-F.Bool b) = Err wrong
+text_at grade wrong (Tree-F.Num lexeme) = Err wrong
+text_at grade wrong (Tree-F.Array ts) = Err wrong
+text_at grade wrong (Tree-F.Object ms) = Err wrong
+
+unfoldable pub text_of : Grade → Kind → Tree → Graded (List ℕ)
+text_of grade wrong tree = text_at grade wrong (out-Tree tree)
+
+abbrev pub char_count : List ℕ → ℕ
+char_count text = length (chars text)
+
+-- the rule's own key goes before the settings
+abbrev pub stripped : StrRule → Settings → List ℕ → List ℕ
+stripped rule settings text = if unwrap_or rule.strip_whitespace settings.str_strip_whitespace then trim text else text
+
+abbrev pub length_fault : StrRule → Settings → List ℕ → Option Kind
+length_fault rule settings text =
+    unless (option_or rule.min_length settings.str_min_length) (λ bound. nat_le bound (char_count text)) kind.StringTooShort
+    orelse unless (option_or rule.max_length settings.str_max_length) (λ bound. nat_le (char_count text) bound) kind.StringTooLong
+
+abbrev pub pattern_fault : Option (List ℕ) → List ℕ → Option Kind
+pattern_fault pattern text = unless pattern (λ p. matches p text) kind.StringPatternMismatch
+
+unfoldable pub text_fault : StrRule → Settings → List ℕ → Option Kind
+text_fault rule settings text = length_fault rule settings text orelse pattern_fault rule.pattern text
+
+unfoldable pub bytes_fault : BytesRule → List ℕ → Option Kind
+bytes_fault rule bytes =
+    unless rule.min_length (λ bound. nat_le bound (length bytes)) kind.BytesTooShort
+    orelse unless rule.max_length (λ bound. nat_le (length bytes) bound) kind.BytesTooLong
