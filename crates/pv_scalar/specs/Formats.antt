@@ -33,7 +33,7 @@ url_length_fault rule text = unless rule.max_length (λ bound. nat_le (char_coun
 
 -- the case of letters counts
 abbrev pub scheme_fault : Option (List (List ℕ)) → UrlText → Option Kind
-scheme_fault allowed url = unless allowed (λ names. list_any (bytes_eq url.scheme) names) (λ names. kind.UrlScheme (expected_text (map literal.Text names)))
+scheme_fault allowed url = unless allowed (λ names. list_any (λ name. bytes_eq name url.scheme) names) (λ names. kind.UrlScheme (expected_text (map literal.Text names)))
 
 abbrev pub url_by : UrlRule → Option UrlText → Graded Value
 url_by rule (Some url) = with_fault (scheme_fault rule.allowed_schemes url) (value.Atom Url url.text, Strict)

@@ -5,3 +5,5 @@ pub mod Texts
 pub mod Literals
 pub mod Formats
 pub mod Scalars
+pub mod Places
+pub mod Built

@@ -34,12 +34,15 @@ unfoldable pub literal_of : Tree → Option Literal
 literal_of tree = literal_at (out-Tree tree)
 
 abbrev pub is_among : List Literal → Option Literal → Bool
-is_among values (Some l) = list_any (literal_same l) values
+is_among values (Some l) = list_any (λ v. literal_same v l) values
 is_among values None = false
+
+abbrev pub enum_value : EnumMember → Literal
+enum_value m = m.value
 
 -- the first member with this value
 abbrev pub member_with : List EnumMember → Literal → Option EnumMember
-member_with members l = find (λ m. literal_same l m.value) members
+member_with members l = find (λ m. literal_same m.value l) members
 
 -- texts in single quotes as they are
 abbrev pub in_quotes : List ℕ → List ℕ

@@ -11,6 +11,8 @@ use Rattle.pv_rules.specs.declared.SubType.{SubType}
 use Rattle.pv_rules.specs.declared.SubType.TheVariants as sub
 use Rattle.pv_rules.specs.declared.IntRule.{IntRule}
 use Rattle.pv_rules.specs.declared.StrRule.{StrRule}
+use Rattle.pv_rules.specs.declared.BytesRule.{BytesRule}
+use Rattle.pv_rules.specs.declared.UrlRule.{UrlRule}
 use Rattle.pv_rules.specs.declared.EnumRule.{EnumRule}
 use Rattle.pv_rules.specs.declared.EnumMember.{EnumMember}
 use Rattle.pv_rules.specs.declared.Literal.{Literal}
@@ -23,8 +25,8 @@ use Rattle.pv_fault.specs.declared.Outcome.{Outcome}
 use Rattle.pv_scalar.specs.Tests.{Graded, by_column, made_into, tested, with_fault, outcome_of}
 use Rattle.pv_scalar.specs.Flags.{flag_of}
 use Rattle.pv_scalar.specs.Integers.{int_of, int_fault}
-use Rattle.pv_scalar.specs.Texts.{text_of, stripped, text_fault, bytes_fault}
-use Rattle.pv_scalar.specs.Literals.{literal_of, is_among, member_with, expected_text}
+use Rattle.pv_scalar.specs.Texts.{text_in, of_text, str_in, bytes_in}
+use Rattle.pv_scalar.specs.Literals.{literal_of, is_among, member_with, enum_value, expected_text}
 use Rattle.pv_scalar.specs.Formats.{uuid_in, url_in}
 
 abbrev pub none_at : Tree-F Tree → Graded Value
@@ -35,16 +37,20 @@ none_at (Tree-F.Str text) = Err kind.NoneRequired
 none_at (Tree-F.Array ts) = Err kind.NoneRequired
 none_at (Tree-F.Object ms) = Err kind.NoneRequired
 
--- what is made of a text, where the tree is one
-abbrev pub of_text : (List ℕ → Graded Value) → Graded (List ℕ) → Graded Value
-of_text f (Ok x) = f x.0
-of_text f (Err kind) = Err kind
-
 unfoldable pub int_answer : IntRule → Bool → Tree → Graded Value
 int_answer rule strict tree = made_into value.Int (tested (int_fault rule) (int_of strict tree))
 
 unfoldable pub str_answer : StrRule → Settings → Tree → Graded Value
-str_answer rule settings tree = made_into value.Str (tested (text_fault rule settings) (made_into (stripped rule settings) (text_of Exact kind.StringType tree)))
+str_answer rule settings tree = of_text (str_in rule settings) kind.StringType (text_in tree)
+
+unfoldable pub bytes_answer : BytesRule → Tree → Graded Value
+bytes_answer rule tree = of_text (bytes_in rule) kind.BytesType (text_in tree)
+
+unfoldable pub uuid_answer : Option ℕ → Tree → Graded Value
+uuid_answer version tree = of_text (uuid_in version) kind.UuidType (text_in tree)
+
+unfoldable pub url_answer : UrlRule → Tree → Graded Value
+url_answer rule tree = of_text (url_in rule) kind.UrlType (text_in tree)
 
 unfoldable pub literal_answer : List Literal → Tree → Graded Value
 literal_answer expected tree = if is_among expected (literal_of tree) then Ok (plain tree, Exact) else Err (kind.LiteralError (expected_text expected))
@@ -72,9 +78,6 @@ abbrev pub member_or : EnumRule → Grade → Option EnumMember → Graded Value
 member_or rule grade (Some m) answer = Ok (member_value rule m, grade)
 member_or rule grade None answer = answer
 
-abbrev pub enum_value : EnumMember → Literal
-enum_value m = m.value
-
 unfoldable pub enum_answer : EnumRule → Bool → Tree → Graded Value
 enum_answer rule strict tree =
     member_or rule Strict (option_and_then (member_with rule.members) (literal_of tree))
@@ -87,9 +90,9 @@ answer_of rule.None settings strict tree = none_at (out-Tree tree)
 answer_of rule.Bool settings strict tree = made_into value.Bool (flag_of strict tree)
 answer_of (rule.Int r) settings strict tree = int_answer r strict tree
 answer_of (rule.Str r) settings strict tree = str_answer r settings tree
-answer_of (rule.Bytes r) settings strict tree = made_into value.Bytes (tested (bytes_fault r) (text_of Strict kind.BytesType tree))
-answer_of (rule.Uuid version) settings strict tree = of_text (uuid_in version) (text_of Strict kind.UuidType tree)
-answer_of (rule.Url r) settings strict tree = of_text (url_in r) (text_of Strict kind.UrlType tree)
+answer_of (rule.Bytes r) settings strict tree = bytes_answer r tree
+answer_of (rule.Uuid version) settings strict tree = uuid_answer version tree
+answer_of (rule.Url r) settings strict tree = url_answer r tree
 answer_of (rule.Literal expected) settings strict tree = literal_answer expected tree
 answer_of (rule.Enum r) settings strict tree = enum_answer r strict tree
 

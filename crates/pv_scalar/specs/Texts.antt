@@ -7,24 +7,30 @@ use Rattle.pv_tree.specs.declared.Tree.TheOpen.{Tree-F}
 use Rattle.pv_rules.specs.declared.StrRule.{StrRule}
 use Rattle.pv_rules.specs.declared.BytesRule.{BytesRule}
 use Rattle.pv_rules.specs.declared.Settings.{Settings}
-use Rattle.pv_fault.specs.declared.Grade.{Grade}
-use Rattle.pv_fault.specs.declared.Grade.TheVariants.{Lax, Strict, Exact}
+use Rattle.pv_tree.specs.declared.Value.{Value}
+use Rattle.pv_tree.specs.declared.Value.TheVariants as value
+use Rattle.pv_fault.specs.declared.Grade.TheVariants.{Strict, Exact}
 use Rattle.pv_fault.specs.declared.Kind.{Kind}
 use Rattle.pv_fault.specs.declared.Kind.TheVariants as kind
 use Rattle.pv_formats.specs.Patterns.{matches}
-use Rattle.pv_scalar.specs.Tests.{Graded, tested, unless, ◌orelse◌}
+use Rattle.pv_scalar.specs.Tests.{Graded, with_fault, unless, ◌orelse◌}
 
--- a string as it stands, and what any other tree is
-abbrev pub text_at : Grade → Kind → Tree-F Tree → Graded (List ℕ)
-text_at grade wrong (Tree-F.Str text) = Ok (text, grade)
-text_at grade wrong Tree-F.Null = Err wrong
-text_at grade wrong (Tree-F.Bool b) = Err wrong
-text_at grade wrong (Tree-F.Num lexeme) = Err wrong
-text_at grade wrong (Tree-F.Array ts) = Err wrong
-text_at grade wrong (Tree-F.Object ms) = Err wrong
+abbrev pub text_at : Tree-F Tree → Option (List ℕ)
+text_at (Tree-F.Str text) = Some text
+text_at Tree-F.Null = None
+text_at (Tree-F.Bool b) = None
+text_at (Tree-F.Num lexeme) = None
+text_at (Tree-F.Array ts) = None
+text_at (Tree-F.Object ms) = None
 
-unfoldable pub text_of : Grade → Kind → Tree → Graded (List ℕ)
-text_of grade wrong tree = text_at grade wrong (out-Tree tree)
+-- the text that a tree is, where it is one
+unfoldable pub text_in : Tree → Option (List ℕ)
+text_in tree = text_at (out-Tree tree)
+
+-- what is made of a text, and what any other tree is
+abbrev pub of_text : {A : Type 0} → (List ℕ → Graded A) → Kind → Option (List ℕ) → Graded A
+of_text f wrong (Some text) = f text
+of_text f wrong None = Err wrong
 
 abbrev pub char_count : List ℕ → ℕ
 char_count text = length (chars text)
@@ -33,7 +39,7 @@ char_count text = length (chars text)
 abbrev pub stripped : StrRule → Settings → List ℕ → List ℕ
 stripped rule settings text = if unwrap_or rule.strip_whitespace settings.str_strip_whitespace then trim text else text
 
-abbrev pub length_fault : StrRule → Settings → List ℕ → Option Kind
+unfoldable pub length_fault : StrRule → Settings → List ℕ → Option Kind
 length_fault rule settings text =
     unless (option_or rule.min_length settings.str_min_length) (λ bound. nat_le bound (char_count text)) kind.StringTooShort
     orelse unless (option_or rule.max_length settings.str_max_length) (λ bound. nat_le (char_count text) bound) kind.StringTooLong
@@ -48,3 +54,10 @@ unfoldable pub bytes_fault : BytesRule → List ℕ → Option Kind
 bytes_fault rule bytes =
     unless rule.min_length (λ bound. nat_le bound (length bytes)) kind.BytesTooShort
     orelse unless rule.max_length (λ bound. nat_le (length bytes) bound) kind.BytesTooLong
+
+-- the tests are of the text without the white space
+abbrev pub str_in : StrRule → Settings → List ℕ → Graded Value
+str_in rule settings text = with_fault (text_fault rule settings (stripped rule settings text)) (value.Str (stripped rule settings text), Exact)
+
+abbrev pub bytes_in : BytesRule → List ℕ → Graded Value
+bytes_in rule text = with_fault (bytes_fault rule text) (value.Bytes text, Strict)

@@ -4,4 +4,7 @@
 mod answers;
 mod flags;
 mod integers;
+mod listing;
+mod literals;
+mod places;
 mod texts;
