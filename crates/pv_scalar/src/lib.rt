@@ -2,9 +2,13 @@
 #![tactic(auto)]
 
 mod answers;
+mod copies;
+mod enums;
 mod flags;
+mod formats;
 mod integers;
 mod listing;
 mod literals;
 mod places;
+mod schemes;
 mod texts;
