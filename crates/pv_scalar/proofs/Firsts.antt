@@ -117,3 +117,7 @@ found_there members values l is =
 pub found_by : (members : List EnumMember) (values : List Literal) (o : Option Literal) → values ≡ map enum_value members → option_and_then (slice_get members) (option_and_then (first_place values) o) ≡ option_and_then (member_with members) o
 found_by members values None is = refl
 found_by members values (Some l) is = found_there members values l is
+
+pub with_place : (members seen : List EnumMember) (values : List Literal) (l : Literal) (o : Option ℕ) (found : Option EnumMember) → values ≡ map enum_value members → members ≡ seen → o ≡ first_place values l → found ≡ option_and_then (slice_get members) o → found ≡ member_with seen l
+with_place members seen values l o found is view place there =
+    there ∙ ap (option_and_then (slice_get members)) place ∙ found_there members values l is ∙ ap (λ ms. member_with ms l) view

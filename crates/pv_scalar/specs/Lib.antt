@@ -6,4 +6,5 @@ pub mod Literals
 pub mod Formats
 pub mod Scalars
 pub mod Places
-pub mod Built
+pub mod TestRules
+pub mod Bodies

@@ -1,5 +1,5 @@
 -- What each scalar gives for a tree.
-use Rattle.std.specs.Prelude.{ℕ, Bool, true, false, if◌then◌else◌, List, map, ℤ, Option, None, Some, option_and_then, Result, Ok, Err}
+use Rattle.std.specs.Prelude.{ℕ, Bool, true, false, if◌then◌else◌, List, map, ℤ, Option, None, Some, option_and_then, Result, Ok, Err, ⊤}
 use Rattle.pv_tree.specs.Plain.{plain}
 use Rattle.pv_tree.specs.declared.Tree.{Tree, out-Tree}
 use Rattle.pv_tree.specs.declared.Tree.TheOpen.{Tree-F}
@@ -22,6 +22,7 @@ use Rattle.pv_fault.specs.declared.Grade.{Grade}
 use Rattle.pv_fault.specs.declared.Grade.TheVariants.{Lax, Strict, Exact}
 use Rattle.pv_fault.specs.declared.Kind.TheVariants as kind
 use Rattle.pv_fault.specs.declared.Outcome.{Outcome}
+use Rattle.pv_formats.specs.Patterns.{IsReadable}
 use Rattle.pv_scalar.specs.Tests.{Graded, by_column, made_into, tested, with_fault, outcome_of}
 use Rattle.pv_scalar.specs.Flags.{flag_of}
 use Rattle.pv_scalar.specs.Integers.{int_of, int_fault}
@@ -36,6 +37,12 @@ none_at (Tree-F.Num lexeme) = Err kind.NoneRequired
 none_at (Tree-F.Str text) = Err kind.NoneRequired
 none_at (Tree-F.Array ts) = Err kind.NoneRequired
 none_at (Tree-F.Object ms) = Err kind.NoneRequired
+
+unfoldable pub none_answer : Tree → Graded Value
+none_answer tree = none_at (out-Tree tree)
+
+unfoldable pub bool_answer : Bool → Tree → Graded Value
+bool_answer strict tree = made_into value.Bool (flag_of strict tree)
 
 unfoldable pub int_answer : IntRule → Bool → Tree → Graded Value
 int_answer rule strict tree = made_into value.Int (tested (int_fault rule) (int_of strict tree))
@@ -86,8 +93,8 @@ enum_answer rule strict tree =
 
 unfoldable pub answer_of : ScalarRule → Settings → Bool → Tree → Graded Value
 answer_of rule.Any settings strict tree = Ok (plain tree, Lax)
-answer_of rule.None settings strict tree = none_at (out-Tree tree)
-answer_of rule.Bool settings strict tree = made_into value.Bool (flag_of strict tree)
+answer_of rule.None settings strict tree = none_answer tree
+answer_of rule.Bool settings strict tree = bool_answer strict tree
 answer_of (rule.Int r) settings strict tree = int_answer r strict tree
 answer_of (rule.Str r) settings strict tree = str_answer r settings tree
 answer_of (rule.Bytes r) settings strict tree = bytes_answer r tree
@@ -98,3 +105,21 @@ answer_of (rule.Enum r) settings strict tree = enum_answer r strict tree
 
 unfoldable pub scalar_of : ScalarRule → Settings → Bool → Tree → Outcome
 scalar_of rule settings strict tree = outcome_of tree (answer_of rule settings strict tree)
+
+-- the pattern, where there is one, is read by the grammar of patterns
+abbrev pub HasReadablePattern : Option (List ℕ) → Type 0
+HasReadablePattern None = ⊤
+HasReadablePattern (Some pattern) = IsReadable pattern
+
+-- a scalar can be built for the rule, but for want of memory
+abbrev pub IsBuildable : ScalarRule → Type 0
+IsBuildable rule.Any = ⊤
+IsBuildable rule.None = ⊤
+IsBuildable rule.Bool = ⊤
+IsBuildable (rule.Int r) = ⊤
+IsBuildable (rule.Str r) = HasReadablePattern r.pattern
+IsBuildable (rule.Bytes r) = ⊤
+IsBuildable (rule.Uuid version) = ⊤
+IsBuildable (rule.Url r) = ⊤
+IsBuildable (rule.Literal expected) = ⊤
+IsBuildable (rule.Enum r) = ⊤

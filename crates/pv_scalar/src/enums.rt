@@ -2,7 +2,7 @@
 
 ghost use Rattle.std.specs.Prelude.{◌≡◌, IfOk};
 ghost use Rattle.std.specs.Option.{option_copied};
-ghost use Rattle.pv_scalar.specs.Built.{enum_rule};
+ghost use Rattle.pv_scalar.specs.TestRules.{enum_rule};
 ghost use Rattle.pv_scalar.specs.Scalars as spec;
 
 use crate::answers::Graded;

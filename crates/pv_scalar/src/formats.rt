@@ -1,7 +1,7 @@
 //! UUIDs and URLs.
 
 ghost use Rattle.std.specs.Prelude.{◌≡◌, IfOk};
-ghost use Rattle.pv_scalar.specs.Built.{url_rule};
+ghost use Rattle.pv_scalar.specs.TestRules.{url_rule};
 ghost use Rattle.pv_scalar.specs.Formats as spec;
 ghost use Rattle.pv_scalar.specs.Scalars as answer;
 

@@ -2,6 +2,7 @@
 #![tactic(auto)]
 
 mod answers;
+mod built;
 mod copies;
 mod enums;
 mod flags;
@@ -12,3 +13,8 @@ mod literals;
 mod places;
 mod schemes;
 mod texts;
+mod validation;
+
+pub use built::Scalar;
+pub use pv_formats::{Pattern, PatternFault, compile_pattern};
+pub use validation::scalar;

@@ -7,7 +7,7 @@ ghost use Rattle.pv_formats.specs.Patterns.{matches};
 ghost use Rattle.pv_scalar.specs.Tests.{unless};
 ghost use Rattle.pv_scalar.specs.Texts as spec;
 ghost use Rattle.pv_scalar.specs.Scalars as answer;
-ghost use Rattle.pv_scalar.specs.Built.{str_rule};
+ghost use Rattle.pv_scalar.specs.TestRules.{str_rule};
 
 use crate::answers::Graded;
 use pv_fault::{Grade, Kind};

@@ -1,4 +1,4 @@
--- The rule that a built scalar stands for.
+-- The rules that tests stand for.
 use Rattle.std.specs.Prelude.{ℕ, List}
 use Rattle.pv_rules.specs.declared.ScalarRule.{ScalarRule}
 use Rattle.pv_rules.specs.declared.ScalarRule.TheVariants as rule
