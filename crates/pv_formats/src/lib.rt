@@ -1,0 +1,12 @@
+//! Texts in the formats of others: regular expressions, UUIDs and URLs.
+#![tactic(auto)]
+
+mod patterns;
+#[cfg(test)]
+mod tests;
+mod urls;
+mod uuids;
+
+pub use patterns::{Pattern, PatternFault, compile_pattern};
+pub use urls::{UrlText, url};
+pub use uuids::{UuidText, uuid};

@@ -1,0 +1,3 @@
+mod Wholes
+mod Digits
+mod Products

@@ -1,0 +1,14 @@
+//! Whole numbers: in spellings of numbers, in texts, and as multiples of one another.
+#![tactic(auto)]
+
+mod laws;
+mod multiples;
+mod numeric_strings;
+#[cfg(test)]
+mod tests;
+mod whole_numbers;
+
+pub use laws::multiples_are_products;
+pub use multiples::is_multiple;
+pub use numeric_strings::numeric_string;
+pub use whole_numbers::whole_number;

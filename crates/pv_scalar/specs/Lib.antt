@@ -1,0 +1,10 @@
+pub mod Tests
+pub mod Flags
+pub mod Integers
+pub mod Texts
+pub mod Literals
+pub mod Formats
+pub mod Scalars
+pub mod Places
+pub mod TestRules
+pub mod Bodies

@@ -1,0 +1,89 @@
+//! The outcome of a scalar for a tree.
+
+ghost use Rattle.std.specs.Prelude.{◌≡◌, IfOk};
+ghost use Rattle.pv_scalar.specs.Bodies.{rule_of};
+ghost use Rattle.pv_scalar.specs.Scalars as spec;
+
+use crate::answers::{Graded, outcome};
+use crate::built::{Body, Scalar};
+use crate::enums::{enum_answer, literal_answer};
+use crate::flags::flag;
+use crate::formats::{url_answer, uuid_answer};
+use crate::integers::{int, int_fault};
+use crate::texts::{bytes_answer, str_answer};
+use pv_fault::{Grade, Kind, Outcome};
+use pv_rules::{IntRule, Settings};
+use pv_text::Memory;
+use pv_tree::{Tree, Value, plain_value};
+use std::alloc::Global;
+
+#[tactic(auto, unfolding(crate::specs::Scalars::none_answer))]
+fn none_answer(tree: &Tree) -> Graded<Value>
+    ensures { result ≡ spec.none_answer tree.now }
+{
+    match tree {
+        Tree::Null => Ok((Value::None, Grade::Exact)),
+        Tree::Bool(_) => Err(Kind::NoneRequired),
+        Tree::Num(_) => Err(Kind::NoneRequired),
+        Tree::Str(_) => Err(Kind::NoneRequired),
+        Tree::Array(_) => Err(Kind::NoneRequired),
+        Tree::Object(_) => Err(Kind::NoneRequired),
+    }
+}
+
+#[tactic(auto, unfolding(crate::specs::Scalars::bool_answer))]
+fn bool_answer(strict: bool, tree: &Tree) -> Graded<Value>
+    ensures { result ≡ spec.bool_answer strict tree.now }
+{
+    match flag(strict, tree) {
+        Ok((b, grade)) => Ok((Value::Bool(b), grade)),
+        Err(kind) => Err(kind),
+    }
+}
+
+#[tactic(auto, unfolding(crate::specs::Scalars::int_answer))]
+fn int_answer(rule: &IntRule, strict: bool, tree: &Tree) -> Graded<Value>
+    ensures { result ≡ spec.int_answer rule.now strict tree.now }
+{
+    match int(strict, tree) {
+        Ok((n, grade)) => match int_fault(rule, n) {
+            None => Ok((Value::Int(n), grade)),
+            Some(kind) => Err(kind),
+        },
+        Err(kind) => Err(kind),
+    }
+}
+
+#[tactic(auto, unfolding(crate::specs::Scalars::answer_of))]
+fn answer(
+    alloc: Global,
+    body: &Body,
+    settings: &Settings,
+    strict: bool,
+    tree: &Tree,
+) -> Result<Graded<Value>, Memory>
+    ensures { IfOk result (λ a. a ≡ spec.answer_of (rule_of body.now) settings.now strict tree.now) }
+{
+    match body {
+        Body::Any => Ok(Ok((plain_value(alloc, tree)?, Grade::Lax))),
+        Body::None => Ok(none_answer(tree)),
+        Body::Bool => Ok(bool_answer(strict, tree)),
+        Body::Int(rule) => Ok(int_answer(rule, strict, tree)),
+        Body::Str(tests) => str_answer(alloc, tests, settings, tree),
+        Body::Bytes(rule) => bytes_answer(alloc, rule, tree),
+        Body::Uuid(version) => uuid_answer(alloc, *version, tree),
+        Body::Url(tests) => url_answer(alloc, tests, tree),
+        Body::Literal(values) => literal_answer(alloc, values, tree),
+        Body::Enum(tests) => enum_answer(alloc, tests, strict, tree),
+    }
+}
+
+/// What the scalar gives for a tree: a value with its grade, or one error at the tree itself. Under
+/// `strict`, trees of other kinds do not stand for flags, ints and members.
+#[tactic(auto, unfolding(crate::specs::Scalars::scalar_of))]
+pub fn scalar(alloc: Global, s: &Scalar, strict: bool, t: &Tree) -> Result<Outcome, Memory>
+    ensures { IfOk result (λ o. o ≡ spec.scalar_of s.now.0 s.now.1 strict t.now) }
+{
+    let answer = answer(alloc, &s.body, &s.settings, strict, t)?;
+    outcome(alloc, answer, t)
+}
