@@ -1,0 +1,40 @@
+-- What a table of records means.
+use Rattle.std.specs.Prelude.{ℕ, zero, suc, Bool, List, [], ◌∷◌, map, slice_get, Option, None, Some}
+use Rattle.pv_tree.specs.declared.Tree.{Tree}
+use Rattle.pv_fault.specs.declared.Kind.TheVariants as kind
+use Rattle.pv_fault.specs.declared.Outcome.{Outcome}
+use Rattle.pv_scalar.specs.Scalars.{scalar_of}
+use Rattle.pv_plan.specs.declared.Op.{Op}
+use Rattle.pv_plan.specs.declared.Op.TheVariants as op
+use Rattle.pv_plan.specs.declared.Record.{Record}
+use Rattle.pv_engine.specs.Rules.{Child, one_error, sequence, tuple, dict, nullable}
+use Rattle.pv_engine.specs.Meaning.{strict_in}
+
+-- a child that is not there; no table that stands for a schema wants one
+abbrev pub no_child : Child
+no_child t = one_error kind.RecursionLoop t
+
+abbrev pub first : List Child → Child
+first [] = no_child
+first (c ∷ cs) = c
+
+abbrev pub second : List Child → Child
+second [] = no_child
+second (c ∷ cs) = first cs
+
+-- one record, by what its children mean
+unfoldable pub operation : Op → Bool → List Child → Tree → Outcome
+operation (op.Scalar s) strict children t = scalar_of s.0 s.1 strict t
+operation (op.Sequence r) strict children t = sequence r (first children) t
+operation (op.Tuple r) strict children t = tuple r children t
+operation (op.Dict r) strict children t = dict r (first children) (second children) t
+operation op.Nullable strict children t = nullable (first children) t
+
+abbrev pub at_record : Option Bool → (ℕ → Child) → Option Record → Child
+at_record run child None t = no_child t
+at_record run child (Some r) t = operation r.op (strict_in run r.strict) (map child r.children) t
+
+-- the record of a number, to this depth
+unfoldable pub run_table : List Record → Option Bool → ℕ → ℕ → Tree → Outcome
+run_table table run zero i t = one_error kind.RecursionLoop t
+run_table table run (suc d) i t = at_record run (run_table table run d) (slice_get table i) t
