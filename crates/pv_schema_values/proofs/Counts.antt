@@ -5,7 +5,7 @@ use Rattle.std.specs.List.{list_any}
 use Rattle.std.specs.Cmp.{IsEquivalence}
 use Rattle.std.specs.HashSet as bag
 use Rattle.std.specs.HashSet.{HashSet, hash_set_len}
-use Rattle.std.specs.Set.{distinct_count, unique_keys, is_member}
+use Rattle.std.specs.Set.{distinct_count, unique_keys}
 use Rattle.std.proofs.lemmas.Map.Made.{hash_set_len-from_list, distinct_count-le}
 use Rattle.std.proofs.lemmas.Grind.{common_steps}
 use Rattle.pv_schema_values.specs.Values.{are_distinct}

@@ -1,5 +1,5 @@
 -- What one level of a tree is by itself.
-use Rattle.std.specs.Prelude.{ℕ, Bool, List, [], ℤ, Option, None, Some}
+use Rattle.std.specs.Prelude.{ℕ, Bool, List, ℤ, Option, None, Some}
 use Rattle.pv_number.specs.WrittenIntegers.{integer}
 use Rattle.pv_tree.specs.declared.Tree.TheOpen.{Tree-F}
 

@@ -1,5 +1,5 @@
 -- What a tree stands for under a key of a schema, where it holds no schema: nothing where it may not stand there.
-use Rattle.std.specs.Prelude.{ℕ, ◌+◌, ◌^◌, ◌-◌, Bool, true, false, not, ◌&&◌, nat_le, if◌then◌else◌, List, [], ◌∷◌, length, codes, ℤ, pos, negsuc, Option, None, Some, is_some, bytes_eq}
+use Rattle.std.specs.Prelude.{ℕ, Bool, true, false, not, ◌&&◌, nat_le, if◌then◌else◌, List, [], ◌∷◌, codes, ℤ, pos, negsuc, Option, None, Some, is_some, bytes_eq}
 use Rattle.std.specs.List.{list_any}
 use Rattle.std.specs.Ordering.{int_eq}
 use Rattle.pv_number.specs.WrittenIntegers.{integer}
