@@ -1,0 +1,6 @@
+pub mod Picks
+pub mod Numbers
+pub mod Options
+pub mod Operands
+pub mod Command
+pub mod Built
