@@ -68,7 +68,7 @@ step (operands_from operands) word = behind_operand (behind operands word)
 -- the command, where no word is missing
 abbrev pub finished : State → Option Command
 finished a_name = None
-finished (options_from f o) = None
+finished (options_from f o) = completed (f.operands o)
 finished (a_pick f next) = None
 finished (operands_from operands) = completed operands
 

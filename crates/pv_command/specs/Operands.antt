@@ -17,7 +17,8 @@ pub data Operands : Type 0 where
   whole : Command → Operands
   a_file : (List ℕ → Operands) → Operands
   a_file_beside : List ℕ → (List ℕ → Operands) → Operands
-  a_number_below : ℕ → (ℕ → Operands) → Operands
+  a_seed : (ℕ → Operands) → Operands
+  a_count : (ℕ → Operands) → Operands
 
 -- it stands for standard input
 abbrev pub is_input : List ℕ → Bool
@@ -32,14 +33,16 @@ unfoldable pub behind : Operands → List ℕ → Option Operands
 behind (whole c) word = None
 behind (a_file next) word = Some (next word)
 behind (a_file_beside other next) word = if is_input other && is_input word then None else Some (next word)
-behind (a_number_below bound next) word = number_by next (number_below bound word)
+behind (a_seed next) word = number_by next (number_below (2 ^ 64) word)
+behind (a_count next) word = number_by next (number_below 100001 word)
 
 -- the command, where no operand is missing
 abbrev pub completed : Operands → Option Command
 completed (whole c) = Some c
 completed (a_file next) = None
 completed (a_file_beside other next) = None
-completed (a_number_below bound next) = None
+completed (a_seed next) = None
+completed (a_count next) = None
 
 -- SCHEMA DOC
 abbrev pub schema_and_document : (List ℕ → List ℕ → Command) → Operands
@@ -51,4 +54,4 @@ one_schema make = a_file (λ schema. whole (make schema))
 
 -- SEED COUNT
 abbrev pub seed_and_count : (ℕ → ℕ → Command) → Operands
-seed_and_count make = a_number_below (2 ^ 64) (λ seed. a_number_below 100001 (λ count. whole (make seed count)))
+seed_and_count make = a_seed (λ seed. a_count (λ count. whole (make seed count)))

@@ -2,9 +2,11 @@
 #![tactic(auto)]
 
 mod answers;
+mod laws;
 mod reading;
 mod words;
 
 pub use answers::{Command, WordsFault};
+pub use laws::{refusals_have_places, refusals_name_the_first_word_that_cannot_stand};
 pub use reading::command;
 pub use words::Words;
