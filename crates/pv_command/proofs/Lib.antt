@@ -1,3 +1,5 @@
 pub mod Following
 pub mod Completions
 pub mod Refusals
+pub mod Others
+pub mod Validates

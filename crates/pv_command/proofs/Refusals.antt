@@ -45,8 +45,9 @@ record IsPlaced (place size at : ℕ) : Type 0 where
 placed : (s : State) (place at : ℕ) (words : Words) → asked_from s place words ≡ Err at → IsPlaced place (length words) at
 placed s place at [] e = let h : at ≡ place = at_none s place at e in record { first = omega arith; last = omega arith }
 placed s place at (word ∷ words) e = elim (at_word s place at word words e) [
-    here none h ↦ record { first = omega arith; last = omega arith }
-  | later t some more ↦ let p : IsPlaced (place + 1) (length words) at = placed t (place + 1) at words more in record { first = omega arith; last = omega arith } ]
+  | here none h ↦ record { first = omega arith; last = omega arith }
+  | later t some more ↦ let p : IsPlaced (place + 1) (length words) at = placed t (place + 1) at words more in record { first = omega arith; last = omega arith }
+]
 
 pub first_place : (words : Words) (at : ℕ) → command words ≡ Err at → 1 ≤ at
 unfolding command
@@ -61,8 +62,9 @@ there_from : (s : State) (place at count : ℕ) (words more : Words) → asked_f
 there_from s place at zero words more e is some = let p : IsPlaced place (length words) at = placed s place at words e in absurd (omega arith)
 there_from s place at (suc count) [] more e is some = absurd (omega arith)
 there_from s place at (suc count) (word ∷ words) more e is some = elim (at_word s place at word words e) [
-    here none h ↦ stops s place word (take count words ++ more) none ∙ ap Err (sym h)
-  | later t moved rest ↦ moves s t place word (take count words ++ more) moved ∙ there_from t (place + 1) at count words more rest (omega arith) (omega arith) ]
+  | here none h ↦ stops s place word (take count words ++ more) none ∙ ap Err (sym h)
+  | later t moved rest ↦ moves s t place word (take count words ++ more) moved ∙ there_from t (place + 1) at count words more rest (omega arith) (omega arith)
+]
 
 pub there : (words more : Words) (at : ℕ) → command words ≡ Err at → at ≤ length words → command (take at words ++ more) ≡ Err at
 unfolding command
@@ -74,9 +76,10 @@ before_from : (s : State) (place at count : ℕ) (words : Words) → asked_from 
 before_from s place at zero words e is = let r = complete s in (r.words, r.command, r.asked place)
 before_from s place at (suc count) [] e is = let h : at ≡ place = at_none s place at e in absurd (omega arith)
 before_from s place at (suc count) (word ∷ words) e is = elim (at_word s place at word words e) [
-    here none h ↦ absurd (omega arith)
+  | here none h ↦ absurd (omega arith)
   | later t moved rest ↦ let r = before_from t (place + 1) at count words rest (omega arith) in
-      (r.0, r.1, moves s t place word (take count words ++ r.0) moved ∙ r.2) ]
+      (r.0, r.1, moves s t place word (take count words ++ r.0) moved ∙ r.2)
+]
 
 pub before : (words : Words) (at : ℕ) → command words ≡ Err at → (more : Words) × (c : Command) × (command (take (at - 1) words ++ more) ≡ Ok c)
 unfolding command

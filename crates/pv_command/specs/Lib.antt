@@ -3,4 +3,5 @@ pub mod Numbers
 pub mod Options
 pub mod Operands
 pub mod Command
+pub mod Validating
 pub mod Built

@@ -1,7 +1,8 @@
 //! What holds of the words. These functions do nothing: their contracts are the laws.
 
-ghost use Rattle.std.specs.Prelude.{◌≡◌, ◌≤◌, ◌+◌, ◌-◌, ◌++◌, ℕ, List, length, take, Ok, Err};
-ghost use Rattle.pv_command.specs.Operands.{Command};
+ghost use Rattle.std.specs.Prelude.{◌≡◌, ◌≤◌, ◌+◌, ◌-◌, ◌++◌, ◌↔◌, ℕ, Bool, List, Option, length, take, Ok, Err};
+ghost use Rattle.pv_command.specs.Operands.{Command, validate};
+ghost use Rattle.pv_command.specs.Validating.{IsValidate};
 ghost use Rattle.pv_command.specs.Command.{command};
 
 /// A refusal names one of the words, or the place behind the last.
@@ -17,4 +18,11 @@ pub fn refusals_name_the_first_word_that_cannot_stand()
         (more : List (List ℕ)) × (c : Command) × (command (take (at - 1) words ++ more) ≡ Ok c) }
     ensures there { (words more : List (List ℕ)) (at : ℕ) → command words ≡ Err at → at ≤ length words →
         command (take at words ++ more) ≡ Err at }
+{}
+
+/// Words ask for `validate` exactly where its name is followed by at most one of `--strict` and
+/// `--lax`, and then by two files, of which the first is no option and one at most is standard input.
+pub fn validate_is_written_so()
+    ensures { (words : List (List ℕ)) (strict : Option Bool) (schema document : List ℕ) →
+        (command words ≡ Ok (validate strict schema document)) ↔ IsValidate words strict schema document }
 {}

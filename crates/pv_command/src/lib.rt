@@ -4,9 +4,11 @@
 mod answers;
 mod laws;
 mod reading;
+#[cfg(test)]
+mod tests;
 mod words;
 
 pub use answers::{Command, WordsFault};
-pub use laws::{refusals_have_places, refusals_name_the_first_word_that_cannot_stand};
+pub use laws::{refusals_have_places, refusals_name_the_first_word_that_cannot_stand, validate_is_written_so};
 pub use reading::command;
 pub use words::Words;

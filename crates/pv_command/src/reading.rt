@@ -73,8 +73,8 @@ fn behind_strictness(strict: bool, words: &[Text]) -> Result<Command<'_>, u64>
 {
     match words {
         [] => Err(3),
-        [first, ..] => {
-            if is_option(first.as_str()) {
+        [second, ..] => {
+            if is_option(second.as_str()) {
                 Err(3)
             } else {
                 files(Some(strict), 3, words)
