@@ -1,17 +1,15 @@
 -- Whatever words stood, some words behind them complete a command.
 use Rattle.std.proofs.Common.{◌≡◌, ℕ, ◌+◌, ◌&&◌, Bool, true, false, cond, List, [], ◌∷◌, codes, refl, sym, ap, ◌∙◌}
 use Rattle.std.specs.Prelude.{Option, Some, None, Ok, Err, nat_lt, ◌^◌}
-use Rattle.pv_tree.specs.declared.Tree.{Tree, fold-Tree}
-use Rattle.pv_tree.specs.declared.Tree.TheVariants.{rolls-Bool}
-use Rattle.pv_tree.specs.declared.Tree.TheOpen.{Tree-F}
-use Rattle.pv_tree.specs.declared.Tree.TheFolds.{fold-roll-Tree}
+use Rattle.pv_tree.specs.declared.Tree.{Tree}
 use Rattle.pv_tree.specs.declared.Tree.TheVariants as tree
 use Rattle.pv_json_grammar.specs.Reading.{after, skip}
 use Rattle.pv_json_grammar.specs.Values.{document, value}
-use Rattle.pv_command.specs.Picks.{Role, role_step, pick_of}
+use Rattle.pv_command.specs.Picks.{Role, pick_of}
 use Rattle.pv_command.specs.Numbers.{number_below}
 use Rattle.pv_command.specs.Options.{Options, is_option}
 use Rattle.pv_command.specs.Operands.{Command, check, Operands, whole, a_file, a_file_beside, a_seed, a_count, behind, is_input}
+use Rattle.pv_command.proofs.Levels.{role_bool}
 use Rattle.pv_command.specs.Command.{Form, State, a_name, options_from, a_pick, operands_from, step, asked_from}
 
 abbrev file : List ℕ
@@ -79,12 +77,9 @@ options_at f o (a_file_beside other next) is = first_operand f o (next file) fil
 options_at f o (a_seed next) is = first_operand f o (next 0) zero_word refl (rw is (seed_zero next)) (operands_complete (next 0))
 options_at f o (a_count next) is = first_operand f o (next 0) zero_word refl (rw is (count_zero next)) (operands_complete (next 0))
 
-role_of_true : fold-Tree Role role_step (tree.Bool true) ≡ role_step (Tree-F.Bool true)
-role_of_true = ap (λ t. fold-Tree Role role_step t) (sym (rolls-Bool true)) ∙ fold-roll-Tree Role role_step (Tree-F.Bool true)
-
 true_is_pick : pick_of (codes "true") ≡ Some (tree.Bool true)
 unfolding pick_of document value after skip
-true_is_pick = ap (λ (r : Role). cond r.is_pick (Some (tree.Bool true)) None) role_of_true
+true_is_pick = ap (λ (r : Role). cond r.is_pick (Some (tree.Bool true)) None) (role_bool true)
 
 pick_complete : (f : Form) (next : Tree → Options) → Completes (options_from f (next (tree.Bool true))) → Completes (a_pick f next)
 unfolding asked_from step

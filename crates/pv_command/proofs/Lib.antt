@@ -1,3 +1,4 @@
+pub mod Levels
 pub mod Following
 pub mod Completions
 pub mod Refusals

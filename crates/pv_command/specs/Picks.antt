@@ -30,8 +30,15 @@ role_step (Tree-F.Str text) = record { is_pick = false; is_item = true }
 role_step (Tree-F.Array items) = record { is_pick = list_all (λ i. i.is_item) items; is_item = false }
 role_step (Tree-F.Object members) = record { is_pick = list_all (λ m. m.1.is_pick) members; is_item = false }
 
+abbrev pub role : Tree → Role
+role t = fold-Tree Role role_step t
+
 abbrev pub is_pick : Tree → Bool
-is_pick t = (fold-Tree Role role_step t).is_pick
+is_pick t = (role t).is_pick
+
+-- it may stand in the list of a pick
+abbrev pub is_item : Tree → Bool
+is_item t = (role t).is_item
 
 abbrev pub pick_read : Result Tree ℕ → Option Tree
 pick_read (Ok t) = if is_pick t then Some t else None
