@@ -77,7 +77,7 @@ options_at f o (a_file_beside other next) is = first_operand f o (next file) fil
 options_at f o (a_seed next) is = first_operand f o (next 0) zero_word refl (rw is (seed_zero next)) (operands_complete (next 0))
 options_at f o (a_count next) is = first_operand f o (next 0) zero_word refl (rw is (count_zero next)) (operands_complete (next 0))
 
-true_is_pick : pick_of (codes "true") ≡ Some (tree.Bool true)
+pub true_is_pick : pick_of (codes "true") ≡ Some (tree.Bool true)
 unfolding pick_of document value after skip
 true_is_pick = ap (λ (r : Role). cond r.is_pick (Some (tree.Bool true)) None) (role_bool true)
 
