@@ -1,7 +1,7 @@
 -- What may follow, and what does not.
-use Rattle.std.proofs.Common.{◌≡◌, ℕ, ◌+◌, ◌==◌, Bool, true, false, List, [], ◌∷◌, length, refl, arith}
-use Rattle.std.specs.Prelude.{Ok, Err}
-use Rattle.pv_command.specs.Operands.{Command, Operands, whole, behind}
+use Rattle.std.proofs.Common.{◌≡◌, ℕ, ◌==◌, false, List, [], ◌∷◌, length, refl}
+use Rattle.std.specs.Prelude.{Err}
+use Rattle.pv_command.specs.Operands.{Command, whole, behind}
 use Rattle.pv_command.specs.Command.{asked_from, step, operands_from}
 
 -- behind the last operand no word can stand

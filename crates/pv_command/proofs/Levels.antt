@@ -1,13 +1,13 @@
 -- What the trees of each kind can be in a pick.
-use Rattle.std.proofs.Common.{◌≡◌, ℕ, Bool, true, false, List, map, refl, sym, ap, ◌∙◌}
+use Rattle.std.proofs.Common.{◌≡◌, ℕ, Bool, List, map, sym, ap, ◌∙◌}
 use Rattle.std.specs.List.{list_all}
 use Rattle.std.proofs.lemmas.List.Folds.{list_all-map}
-use Rattle.pv_tree.specs.declared.Tree.{Tree, roll-Tree}
+use Rattle.pv_tree.specs.declared.Tree.{Tree}
 use Rattle.pv_tree.specs.declared.Tree.TheVariants as tree
 use Rattle.pv_tree.specs.declared.Tree.TheVariants.{rolls-Null, rolls-Bool, rolls-Num, rolls-Str, rolls-Array, rolls-Object}
 use Rattle.pv_tree.specs.declared.Tree.TheOpen.{Tree-F}
 use Rattle.pv_tree.specs.declared.Tree.TheFolds.{fold-roll-Tree}
-use Rattle.pv_command.specs.Picks.{Role, role_step, role, is_pick, is_item, is_count}
+use Rattle.pv_command.specs.Picks.{Role, role_step, role, is_pick, is_item}
 
 pub role_null : role tree.Null ≡ role_step Tree-F.Null
 role_null = ap role (sym rolls-Null) ∙ fold-roll-Tree Role role_step Tree-F.Null

@@ -1,12 +1,12 @@
 -- No other command than `validate` is asked for by `validate`.
-use Rattle.std.proofs.Common.{◌≡◌, ℕ, ◌+◌, ◌⊎◌, inl, inr, Bool, true, false, cond, List, [], ◌∷◌, codes, drop, refl, sym, ap, ◌∙◌, subst}
-use Rattle.std.specs.Prelude.{Option, Some, None, Ok, Err, bytes_eq, ◌^◌, ◌&&◌}
+use Rattle.std.proofs.Common.{◌≡◌, ℕ, ◌+◌, ◌⊎◌, inl, inr, Bool, true, false, cond, List, [], ◌∷◌, codes, drop, refl, sym, subst}
+use Rattle.std.specs.Prelude.{Option, Some, None, Ok, bytes_eq, ◌^◌, ◌&&◌}
 use Rattle.std.specs.List.{find}
 use Rattle.std.proofs.lemmas.Slice.Eq.{bytes_eq-Decides}
 use Rattle.pv_tree.specs.declared.Tree.{Tree}
 use Rattle.pv_command.specs.Picks.{pick_of}
 use Rattle.pv_command.specs.Numbers.{number_below}
-use Rattle.pv_command.specs.Options.{Options, no_options, is_option, Effect, flag, with_pick, effect_of}
+use Rattle.pv_command.specs.Options.{Options, is_option, Effect, flag, with_pick, effect_of}
 use Rattle.pv_command.specs.Operands.{Command, validate, dump, lines, check, jsonschema, workload, Operands, whole, a_file, a_file_beside, a_seed, a_count, behind, completed, number_by, is_input}
 use Rattle.pv_command.specs.Command.{Form, validate_form, forms, form_named, State, a_name, options_from, a_pick, operands_from, step, finished, behind_operand, behind_option, behind_pick, Asked, at_end, onward, asked_from}
 
@@ -75,8 +75,9 @@ unfolding behind
 behind_other (whole c) rest word other e = cc
 behind_other (a_file next) rest word other e = let same : next word ≡ rest = cc in subst AskOther same (other word)
 behind_other (a_file_beside first next) rest word other e = elim (chosen (is_input first && is_input word) None (Some (next word)) (Some rest) e) [
-    inl w ↦ let none : None ≡ Some rest = w.1 in cc
-  | inr w ↦ let same : next word ≡ rest = cc in subst AskOther same (other word) ]
+  | inl w ↦ let none : None ≡ Some rest = w.1 in cc
+  | inr w ↦ let same : next word ≡ rest = cc in subst AskOther same (other word)
+]
 behind_other (a_seed next) rest word other e = number_other next (number_below (2 ^ 64) word) rest other e
 behind_other (a_count next) rest word other e = number_other next (number_below 100001 word) rest other e
 
@@ -97,8 +98,9 @@ step_other : (s t : State) (word : List ℕ) → LeadsOther s → step s word �
 unfolding step
 step_other a_name t word other e = absurd other
 step_other (options_from f o) t word other e = elim (chosen (is_option word) (behind_option f (effect_of f.options o word)) (behind_operand (behind (f.operands o) word)) (Some t) e) [
-    inl w ↦ option_other f (effect_of f.options o word) t other w.1
-  | inr w ↦ then_other (behind (f.operands o) word) t (λ rest. behind_other (f.operands o) rest word (other o)) w.1 ]
+  | inl w ↦ option_other f (effect_of f.options o word) t other w.1
+  | inr w ↦ then_other (behind (f.operands o) word) t (λ rest. behind_other (f.operands o) rest word (other o)) w.1
+]
 step_other (a_pick f next) t word other e = pick_other f next (pick_of word) t other e
 step_other (operands_from operands) t word other e = then_other (behind operands word) t (λ rest. behind_other operands rest word other) e
 
@@ -124,13 +126,15 @@ found_in name fs = find (λ f. bytes_eq name f.name) fs
 found : (name : List ℕ) (f : Form) (fs : List Form) → Others fs → found_in name fs ≡ Some f → FormsOther f
 found name f [] others e = cc
 found name f (g ∷ gs) others e = elim (chosen (bytes_eq name g.name) (Some g) (found_in name gs) (Some f) e) [
-    inl w ↦ subst FormsOther (some_same g f w.1) others.0
-  | inr w ↦ found name f gs others.1 w.1 ]
+  | inl w ↦ subst FormsOther (some_same g f w.1) others.0
+  | inr w ↦ found name f gs others.1 w.1
+]
 
 named_in : (name : List ℕ) (f : Form) (fs : List Form) → Others fs → found_in name (validate_form ∷ fs) ≡ Some f → Named name f
 named_in name f fs others e = elim (chosen (bytes_eq name (codes "validate")) (Some validate_form) (found_in name fs) (Some f) e) [
-    inl w ↦ inl ((bytes_eq-Decides name (codes "validate")).0 w.0, sym (some_same validate_form f w.1))
-  | inr w ↦ inr (found name f fs others w.1) ]
+  | inl w ↦ inl ((bytes_eq-Decides name (codes "validate")).0 w.0, sym (some_same validate_form f w.1))
+  | inr w ↦ inr (found name f fs others w.1)
+]
 
 pub named : (name : List ℕ) (f : Form) → form_named name ≡ Some f → Named name f
 named name f e =

@@ -1,10 +1,10 @@
 -- The words of `validate` are those that it says, and no others.
-use Rattle.std.proofs.Common.{◌≡◌, ℕ, ◌+◌, ◌⊎◌, inl, inr, Bool, true, false, cond, List, [], ◌∷◌, ◌++◌, codes, refl, sym, ap, ◌∙◌, subst}
-use Rattle.std.specs.Prelude.{Option, Some, None, Ok, Err, bytes_eq, ◌&&◌, ◌↔◌, is_some}
+use Rattle.std.proofs.Common.{◌≡◌, ℕ, ◌+◌, ◌⊎◌, inl, inr, Bool, true, false, cond, List, [], ◌∷◌, ◌++◌, codes, refl, ap, ◌∙◌, subst}
+use Rattle.std.specs.Prelude.{Option, Some, None, Ok, bytes_eq, ◌&&◌, ◌↔◌, is_some}
 use Rattle.std.proofs.lemmas.Slice.Eq.{bytes_eq-Decides}
 use Rattle.pv_command.specs.Options.{Options, no_options, is_option, Effect, flag, row, strictness, effect_by, effect_of}
-use Rattle.pv_command.specs.Operands.{Command, validate, Operands, whole, behind, is_input}
-use Rattle.pv_command.specs.Command.{Form, validate_form, form_named, State, a_name, options_from, operands_from, step, behind_name, behind_option, behind_operand, Asked, onward, asked_from, command}
+use Rattle.pv_command.specs.Operands.{Command, validate, whole, behind, is_input}
+use Rattle.pv_command.specs.Command.{Form, validate_form, form_named, State, options_from, step, behind_name, behind_option, behind_operand, Asked, onward, asked_from, command}
 use Rattle.pv_command.specs.Built.{strictly, options_behind, operands_behind}
 use Rattle.pv_command.specs.Validating.{said, IsValidate}
 use Rattle.pv_command.proofs.Others.{leads_other, named}
@@ -60,11 +60,13 @@ files told strict place (x ∷ []) schema document e = cc
 files told strict place (x ∷ y ∷ more) schema document e =
     let p = pair (is_input x && is_input y) told (place + 1) x y more (validate strict schema document) e in
     let first : x ≡ schema = cc in
-    let second : y ≡ document = cc in
-    (record {
-      whole = ap (λ (w : Words). x ∷ y ∷ w) p.1 ∙ ap (λ (w : List ℕ). w ∷ y ∷ []) first ∙ ap (λ (w : List ℕ). schema ∷ w ∷ []) second;
-      apart = subst (λ w. (is_input schema && is_input w) ≡ false) second (subst (λ w. (is_input w && is_input y) ≡ false) first p.0);
-    }, cc)
+    let second : y ≡ document = cc in (
+      record {
+        whole = ap (λ (w : Words). x ∷ y ∷ w) p.1 ∙ ap (λ (w : List ℕ). w ∷ y ∷ []) first ∙ ap (λ (w : List ℕ). schema ∷ w ∷ []) second;
+        apart = subst (λ w. (is_input schema && is_input w) ≡ false) second (subst (λ w. (is_input w && is_input y) ≡ false) first p.0);
+      },
+      cc,
+    )
 
 -- the first of two ways, or the second
 either : (b : Bool) (place : ℕ) (next : State → Asked) (x y : Option State) (c : Command) → onward place next (cond b x y) ≡ Ok c
@@ -111,8 +113,9 @@ behind_first : (b : Bool) (strict : Option Bool) (place : ℕ) (words : Words) (
 unfolding asked_from step
 behind_first b strict place [] schema document e = cc
 behind_first b strict place (x ∷ more) schema document e = elim (at_option (strictly b) place x more (validate strict schema document) e) [
-    inl w ↦ let stopped : onward place (λ t. asked_from t (place + 1) more) (behind_option validate_form None) ≡ Ok (validate strict schema document) = rw (second b x) at w.1 in cc
-  | inr w ↦ operands_only (Some b) strict place x more schema document w.0 w.1 ]
+  | inl w ↦ let stopped : onward place (λ t. asked_from t (place + 1) more) (behind_option validate_form None) ≡ Ok (validate strict schema document) = rw (second b x) at w.1 in cc
+  | inr w ↦ operands_only (Some b) strict place x more schema document w.0 w.1
+]
 
 first_at : (p q : Bool) (place : ℕ) (next : State → Asked) (n m : List ℕ) (c : Command)
     → onward place next (behind_option validate_form (effect_by no_options (cond p (Some (row n (λ o. is_some o.strict) (λ o. flag (record o { strict = Some true })))) (cond q (Some (row m (λ o. is_some o.strict) (λ o. flag (record o { strict = Some false })))) None)))) ≡ Ok c
@@ -125,8 +128,9 @@ first : (x : List ℕ) (place : ℕ) (next : State → Asked) (c : Command) → 
     → ((x ≡ codes "--strict") × (next (options_behind (strictly true)) ≡ Ok c)) ⊎ ((x ≡ codes "--lax") × (next (options_behind (strictly false)) ≡ Ok c))
 unfolding effect_of
 first x place next c e = elim (first_at (bytes_eq x (codes "--strict")) (bytes_eq x (codes "--lax")) place next (codes "--strict") (codes "--lax") c e) [
-    inl w ↦ inl ((bytes_eq-Decides x (codes "--strict")).0 w.0, w.1)
-  | inr w ↦ inr ((bytes_eq-Decides x (codes "--lax")).0 w.0, w.1) ]
+  | inl w ↦ inl ((bytes_eq-Decides x (codes "--strict")).0 w.0, w.1)
+  | inr w ↦ inr ((bytes_eq-Decides x (codes "--lax")).0 w.0, w.1)
+]
 
 -- the words behind the name
 record IsRest (words : Words) (strict : Option Bool) (schema document : List ℕ) : Type 0 where
@@ -148,18 +152,21 @@ rest : (words : Words) (strict : Option Bool) (schema document : List ℕ) → a
 unfolding asked_from step
 rest [] strict schema document e = cc
 rest (x ∷ more) strict schema document e = elim (at_option no_options 2 x more (validate strict schema document) e) [
-    inl w ↦ elim (first x 2 (λ t. asked_from t 3 more) (validate strict schema document) w.1) [
-      inl v ↦ with_option true x more strict schema document (ap (λ y. y ∷ []) v.0) (behind_first true strict 3 more schema document v.1)
-    | inr v ↦ with_option false x more strict schema document (ap (λ y. y ∷ []) v.0) (behind_first false strict 3 more schema document v.1) ]
-  | inr w ↦ without (x ∷ more) strict schema document (operands_only None strict 2 x more schema document w.0 w.1) ]
+  | inl w ↦ elim (first x 2 (λ t. asked_from t 3 more) (validate strict schema document) w.1) [
+    | inl v ↦ with_option true x more strict schema document (ap (λ y. y ∷ []) v.0) (behind_first true strict 3 more schema document v.1)
+    | inr v ↦ with_option false x more strict schema document (ap (λ y. y ∷ []) v.0) (behind_first false strict 3 more schema document v.1)
+  ]
+  | inr w ↦ without (x ∷ more) strict schema document (operands_only None strict 2 x more schema document w.0 w.1)
+]
 
 by_form : (name : List ℕ) (words : Words) (o : Option Form) (strict : Option Bool) (schema document : List ℕ) → form_named name ≡ o
     → onward 1 (λ t. asked_from t 2 words) (behind_name o) ≡ Ok (validate strict schema document) → IsValidate (name ∷ words) strict schema document
 by_form name words None strict schema document is e = cc
 by_form name words (Some f) strict schema document is e = elim (named name f is) [
-    inl w ↦ let r = rest words strict schema document (subst (λ g. asked_from (options_from g no_options) 2 words ≡ Ok (validate strict schema document)) w.1 e) in
+  | inl w ↦ let r = rest words strict schema document (subst (λ g. asked_from (options_from g no_options) 2 words ≡ Ok (validate strict schema document)) w.1 e) in
       record { whole = ap (λ n. n ∷ words) w.0 ∙ ap (λ t. codes "validate" ∷ t) r.whole; plain = r.plain; apart = r.apart }
-  | inr other ↦ let never : true ≡ false = leads_other (options_from f no_options) 2 words (validate strict schema document) other e in cc ]
+  | inr other ↦ let never : true ≡ false = leads_other (options_from f no_options) 2 words (validate strict schema document) other e in cc
+]
 
 written_so : (words : Words) (strict : Option Bool) (schema document : List ℕ) → command words ≡ Ok (validate strict schema document) → IsValidate words strict schema document
 unfolding command asked_from step

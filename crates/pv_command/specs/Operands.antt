@@ -1,5 +1,5 @@
 -- The commands and their operands.
-use Rattle.std.specs.Prelude.{ℕ, ◌^◌, Bool, ◌&&◌, if◌then◌else◌, List, [], ◌∷◌, codes, Option, Some, None, bytes_eq}
+use Rattle.std.specs.Prelude.{ℕ, ◌^◌, Bool, ◌&&◌, if◌then◌else◌, List, codes, Option, Some, None, bytes_eq}
 use Rattle.pv_command.specs.Numbers.{number_below}
 use Rattle.pv_command.specs.Options.{Options}
 
@@ -15,9 +15,13 @@ pub data Command : Type 0 where
 -- the operands that have to come: nothing more, or a word of some kind and, by what it says, those behind it
 pub data Operands : Type 0 where
   whole : Command → Operands
+  -- a file's name, or `-`
   a_file : (List ℕ → Operands) → Operands
+  -- a file's name, or `-` where the other file is not that
   a_file_beside : List ℕ → (List ℕ → Operands) → Operands
+  -- a number below 2^64
   a_seed : (ℕ → Operands) → Operands
+  -- a number of at most 100,000
   a_count : (ℕ → Operands) → Operands
 
 -- it stands for standard input
@@ -28,7 +32,7 @@ abbrev pub number_by : (ℕ → Operands) → Option ℕ → Option Operands
 number_by next None = None
 number_by next (Some n) = Some (next n)
 
--- what has to come behind this operand, where it can stand; of two files one at most is standard input
+-- what has to come behind a word that stands first among these operands, or `None` where it cannot stand there
 unfoldable pub behind : Operands → List ℕ → Option Operands
 behind (whole c) word = None
 behind (a_file next) word = Some (next word)

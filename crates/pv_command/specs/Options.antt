@@ -1,5 +1,5 @@
 -- The options of the commands.
-use Rattle.std.specs.Prelude.{ℕ, Bool, false, true, ◌&&◌, ◌==◌, if◌then◌else◌, List, [], ◌∷◌, ◌++◌, codes, Option, Some, None, is_some, bytes_eq}
+use Rattle.std.specs.Prelude.{ℕ, Bool, false, true, ◌&&◌, ◌==◌, if◌then◌else◌, List, [], ◌∷◌, codes, Option, Some, None, is_some, bytes_eq}
 use Rattle.std.specs.List.{find}
 use Rattle.pv_tree.specs.declared.Tree.{Tree}
 

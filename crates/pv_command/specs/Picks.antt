@@ -16,7 +16,7 @@ is_small None = false
 abbrev pub is_count : List ℕ → Bool
 is_count lexeme = is_small (integer lexeme)
 
--- what a tree can be
+-- what a tree can be: a pick, or an item in the list of one
 pub record Role : Type 0 where
   pub is_pick : Bool
   pub is_item : Bool
@@ -36,7 +36,6 @@ role t = fold-Tree Role role_step t
 abbrev pub is_pick : Tree → Bool
 is_pick t = (role t).is_pick
 
--- it may stand in the list of a pick
 abbrev pub is_item : Tree → Bool
 is_item t = (role t).is_item
 

@@ -3,7 +3,7 @@
 ghost use Rattle.std.specs.Prelude.{◌≡◌, ◌<◌, ◌^◌, ◌↔◌, ℕ, IfOk, IsTrue, Ok, Err, []};
 ghost use Rattle.std.specs.Option.{option_map};
 ghost use Rattle.pv_command.specs.Built as built;
-ghost use Rattle.pv_command.specs.Built.{Tells, begins_unbuilt, shown};
+ghost use Rattle.pv_command.specs.Built.{Tells, begins_unbuilt, is_not_built, shown};
 ghost use Rattle.pv_command.specs.Command as spec;
 ghost use Rattle.pv_command.specs.Command.{asked_from};
 ghost use Rattle.pv_command.specs.Operands as operands;
@@ -32,7 +32,8 @@ fn is_input(word: &str) -> bool
 /// What an option says, where it is one of strictness.
 #[tactic(auto, unfolding(crate::specs::Options::effect_of))]
 fn strictness(option: &str) -> Option<bool>
-    ensures { option_map built.strictness_effect result ≡ options.effect_of options.strictness options.no_options option.now }
+    ensures { option_map built.strictness_effect result ≡
+        options.effect_of options.strictness options.no_options option.now }
 {
     match option {
         "--strict" => Some(true),
@@ -116,12 +117,14 @@ fn is_unbuilt(name: &str) -> bool
     }
 }
 
-/// The command that the words ask for.
+/// The command that the words ask for. It takes no memory.
 #[tactic(auto, unfolding(crate::specs::Command::command, crate::specs::Command::asked_from, crate::specs::Command::step))]
 pub fn command(words: &Words) -> Result<Command<'_>, WordsFault>
     ensures command { IfOk result (λ c. spec.command words.now ≡ Ok (shown c)) }
-    ensures refused { (place : ℕ) → result ≡ Err (WordsFault.Refused place) → spec.command words.now ≡ Err place }
+    ensures refused { (at : ℕ) → result ≡ Err (WordsFault.Refused at) →
+        spec.command words.now ≡ Err at }
     ensures not_built { (result ≡ Err WordsFault.NotBuilt) ↔ IsTrue (begins_unbuilt words.now) }
+    ensures tested { is_not_built result ≡ begins_unbuilt words.now }
 {
     match words.as_slice() {
         [] => Err(WordsFault::Refused { at: 1 }),
@@ -129,12 +132,9 @@ pub fn command(words: &Words) -> Result<Command<'_>, WordsFault>
             if is_unbuilt(name.as_str()) {
                 return Err(WordsFault::NotBuilt);
             }
-            if name.as_str() != "validate" {
-                return Err(WordsFault::Refused { at: 1 });
-            }
-            match validate(more) {
-                Ok(command) => Ok(command),
-                Err(at) => Err(WordsFault::Refused { at }),
+            match name.as_str() {
+                "validate" => validate(more).map_err(|at| WordsFault::Refused { at }),
+                _ => Err(WordsFault::Refused { at: 1 }),
             }
         }
     }

@@ -1,4 +1,4 @@
-use Rattle.std.proofs.Common.{◌≡◌, ◌∷◌, [], codes, cond, true, refl, ap}
+use Rattle.std.proofs.Common.{◌≡◌, ◌∷◌, [], codes, cond, refl, ap}
 use Rattle.std.specs.Prelude.{None, Some}
 use Rattle.pv_number.specs.Scanning.{digits, minus_len, sign_len, whole_len, fraction_len, exponent_len, number_len}
 use Rattle.pv_tree.specs.declared.Tree.TheVariants as tree
