@@ -4,3 +4,4 @@ pub mod Completions
 pub mod Refusals
 pub mod Others
 pub mod Validates
+pub mod Swaps

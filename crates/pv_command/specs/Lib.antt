@@ -4,4 +4,5 @@ pub mod Options
 pub mod Operands
 pub mod Command
 pub mod Validating
+pub mod Orders
 pub mod Built

@@ -1,9 +1,10 @@
 //! What holds of the words. These functions do nothing: their contracts are the laws.
 
-ghost use Rattle.std.specs.Prelude.{◌≡◌, ◌≤◌, ◌+◌, ◌-◌, ◌++◌, ◌↔◌, ℕ, Bool, true, false, List, Option, length, take, Ok, Err};
+ghost use Rattle.std.specs.Prelude.{◌≡◌, ◌≤◌, ◌+◌, ◌-◌, ◌++◌, ◌∷◌, ◌↔◌, ℕ, Bool, true, false, List, Option, length, take, Ok, Err};
 ghost use Rattle.std.specs.List.{list_all};
 ghost use Rattle.pv_tree.specs.declared.Tree.{Tree};
 ghost use Rattle.pv_tree.specs.declared.Tree.TheVariants as tree;
+ghost use Rattle.pv_command.specs.Orders.{Choice, dump_words};
 ghost use Rattle.pv_command.specs.Picks.{is_count, is_item, is_pick};
 ghost use Rattle.pv_command.specs.Operands.{Command, validate};
 ghost use Rattle.pv_command.specs.Validating.{IsValidate};
@@ -44,4 +45,12 @@ pub fn picks_are_so()
     ensures no_item { (is_item tree.Null ≡ false) × ((b : Bool) → is_item (tree.Bool b) ≡ false) ×
         ((items : List Tree) → is_item (tree.Array items) ≡ false) ×
         ((members : List (List ℕ × Tree)) → is_item (tree.Object members) ≡ false) }
+{}
+
+/// Two options of a dump that stand next to each other may change places, each with its pick. So
+/// the order of the options does not matter.
+pub fn options_may_change_places()
+    ensures { (front back : List (Choice × List ℕ)) (a b : Choice × List ℕ) (more : List (List ℕ)) (c : Command) →
+        command (dump_words (front ++ a ∷ b ∷ back) more) ≡ Ok c →
+        command (dump_words (front ++ b ∷ a ∷ back) more) ≡ Ok c }
 {}

@@ -10,8 +10,8 @@ mod words;
 
 pub use answers::{Command, WordsFault};
 pub use laws::{
-    picks_are_so, refusals_have_places, refusals_name_the_first_word_that_cannot_stand,
-    validate_is_written_so,
+    options_may_change_places, picks_are_so, refusals_have_places,
+    refusals_name_the_first_word_that_cannot_stand, validate_is_written_so,
 };
 pub use reading::command;
 pub use words::Words;
