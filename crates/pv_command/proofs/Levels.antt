@@ -1,0 +1,37 @@
+-- What the trees of each kind can be in a pick.
+use Rattle.std.proofs.Common.{◌≡◌, ℕ, Bool, List, map, sym, ap, ◌∙◌}
+use Rattle.std.specs.List.{list_all}
+use Rattle.std.proofs.lemmas.List.Folds.{list_all-map}
+use Rattle.pv_tree.specs.declared.Tree.{Tree}
+use Rattle.pv_tree.specs.declared.Tree.TheVariants as tree
+use Rattle.pv_tree.specs.declared.Tree.TheVariants.{rolls-Null, rolls-Bool, rolls-Num, rolls-Str, rolls-Array, rolls-Object}
+use Rattle.pv_tree.specs.declared.Tree.TheOpen.{Tree-F}
+use Rattle.pv_tree.specs.declared.Tree.TheFolds.{fold-roll-Tree}
+use Rattle.pv_command.specs.Picks.{Role, role_step, role, is_pick, is_item}
+
+pub role_null : role tree.Null ≡ role_step Tree-F.Null
+role_null = ap role (sym rolls-Null) ∙ fold-roll-Tree Role role_step Tree-F.Null
+
+pub role_bool : (b : Bool) → role (tree.Bool b) ≡ role_step (Tree-F.Bool b)
+role_bool b = ap role (sym (rolls-Bool b)) ∙ fold-roll-Tree Role role_step (Tree-F.Bool b)
+
+pub role_num : (lexeme : List ℕ) → role (tree.Num lexeme) ≡ role_step (Tree-F.Num lexeme)
+role_num lexeme = ap role (sym (rolls-Num lexeme)) ∙ fold-roll-Tree Role role_step (Tree-F.Num lexeme)
+
+pub role_str : (text : List ℕ) → role (tree.Str text) ≡ role_step (Tree-F.Str text)
+role_str text = ap role (sym (rolls-Str text)) ∙ fold-roll-Tree Role role_step (Tree-F.Str text)
+
+pub role_array : (ts : List Tree) → role (tree.Array ts) ≡ role_step (Tree-F.Array (map role ts))
+role_array ts = ap role (sym (rolls-Array ts)) ∙ fold-roll-Tree Role role_step (Tree-F.Array ts)
+
+abbrev with_role : List ℕ × Tree → List ℕ × Role
+with_role m = (m.0, role m.1)
+
+pub role_object : (ms : List (List ℕ × Tree)) → role (tree.Object ms) ≡ role_step (Tree-F.Object (map with_role ms))
+role_object ms = ap role (sym (rolls-Object ms)) ∙ fold-roll-Tree Role role_step (Tree-F.Object ms)
+
+pub pick_array : (ts : List Tree) → is_pick (tree.Array ts) ≡ list_all is_item ts
+pick_array ts = ap (λ (r : Role). r.is_pick) (role_array ts) ∙ list_all-map (λ (r : Role). r.is_item) role ts
+
+pub pick_object : (ms : List (List ℕ × Tree)) → is_pick (tree.Object ms) ≡ list_all (λ m. is_pick m.1) ms
+pick_object ms = ap (λ (r : Role). r.is_pick) (role_object ms) ∙ list_all-map (λ (m : List ℕ × Role). m.1.is_pick) with_role ms
