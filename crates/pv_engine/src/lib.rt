@@ -2,5 +2,9 @@
 #![tactic(auto)]
 
 mod laws;
+mod level;
+mod one_error;
+mod positions;
+mod rules;
 
 pub use laws::means_the_same;

@@ -1,0 +1,9 @@
+use Rattle.std.proofs.Common.{◌≡◌, map, take}
+use Rattle.pv_collect.specs.State.{gathered_items}
+use Rattle.pv_engine.specs.Rules.{part}
+use Rattle.pv_engine.specs.Run.{run_table, first}
+use Rattle.pv_engine.proofs.rules.Rules.sequence_items.Given as goal
+
+abbrev pub invariant-loop-item : goal.invariant-loop-item
+invariant-loop-item g l =
+    l.gather ≡ gathered_items l.rule (map (part (first (map (run_table l.self.table.now l.self.run l.self.depth) l.children))) (take l.item-index l.items))

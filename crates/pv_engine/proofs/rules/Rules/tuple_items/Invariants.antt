@@ -1,0 +1,14 @@
+use Rattle.std.proofs.Common.{◌≡◌, map, take, drop, length}
+use Rattle.pv_collect.specs.State.{gathered_items}
+use Rattle.pv_engine.specs.Rules.{placed}
+use Rattle.pv_engine.specs.Run.{run_table}
+use Rattle.pv_engine.proofs.rules.Rules.tuple_items.Given as goal
+
+abbrev pub invariant-loop-place : goal.invariant-loop-place
+invariant-loop-place g l =
+    let children = map (run_table l.self.table.now l.self.run l.self.depth) l.children in
+    let parts = placed l.rule children (length l.items) 0 l.items in
+    record {
+      gather : l.gather ≡ gathered_items l.rule (take l.place parts);
+      rest : drop l.place parts ≡ placed l.rule children (length l.items) l.place (drop l.place l.items);
+    }
