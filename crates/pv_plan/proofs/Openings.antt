@@ -1,5 +1,6 @@
 -- The first bad pattern of a schema, by those of its child schemas.
-use Rattle.std.proofs.Common.{◌≡◌, ℕ, ◌+◌, Bool, true, false, if◌then◌else◌, List, [], ◌∷◌, map, refl, ap, sym, ◌∙◌, Option, Some, None}
+use Rattle.std.proofs.Common.{◌≡◌, ℕ, ◌+◌, ◌<◌, Bool, true, false, if◌then◌else◌, List, [], ◌∷◌, map, length, drop, get_or, refl, ap, sym, ◌∙◌, Option, Some, None}
+use Rattle.std.proofs.lemmas.List.{at_drop_more}
 use Rattle.pv_node.specs.declared.Node.{Node, rec-roll-Node, roll-out-Node, out-Node, roll-Node, rec-Node}
 use Rattle.pv_node.specs.declared.Body.{Body, rec-roll-Body, roll-out-Body, out-Body, roll-Body, rec-Body, map-Body}
 use Rattle.pv_node.specs.declared.Body.TheOpen.{Body-F, Node-F}
@@ -54,3 +55,13 @@ search_opens n =
     ∙ ap (λ b. (rec-Body Search Search body_step node_step b).path) (sym (roll-out-Body (out-Node n).body))
     ∙ found_in_body (out-Body (out-Node n).body)
     ∙ split (out-Body (out-Node n).body)
+
+-- past a position where no pattern is bad
+pub positions_more : (all : List Node) (i : ℕ) (x : Node) (whole : Option Path) → i < length all → x ≡ get_or all i x
+    → behind (Name (codes "items_schema") ∷ Index i ∷ []) (bad_pattern x) ≡ None → in_positions bad_pattern i (drop i all) ≡ whole
+    → in_positions bad_pattern (i + 1) (drop (i + 1) all) ≡ whole
+positions_more all i x whole l here none e =
+    let rest = in_positions bad_pattern (i + 1) (drop (i + 1) all) in
+    sym (ap (λ path. first_of path rest) none)
+    ∙ ap (λ y. first_of (behind (Name (codes "items_schema") ∷ Index i ∷ []) (bad_pattern y)) rest) here
+    ∙ sym (at_drop_more (in_positions bad_pattern i) all i x l) ∙ e

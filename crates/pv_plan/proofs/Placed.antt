@@ -4,16 +4,13 @@ use Rattle.std.specs.List.{flat_map}
 use Rattle.std.proofs.Math.Seq.{drop-append_seam}
 use Rattle.std.proofs.lemmas.List.{append_assoc}
 use Rattle.std.proofs.lemmas.Grind.{flat_map-append}
-use Rattle.pv_rules.specs.declared.ScalarRule.TheVariants as rule
-use Rattle.pv_node.specs.declared.Node.{Node, out-Node, out-roll-Node}
-use Rattle.pv_node.specs.declared.Body.{Body, out-Body, out-roll-Body}
-use Rattle.pv_node.specs.declared.Body.TheVariants as body
-use Rattle.pv_node.specs.declared.Body.TheVariants.{rolls-Scalar}
-use Rattle.pv_node.specs.declared.Body.TheOpen.{Body-F, Node-F}
-use Rattle.pv_node.specs.Preorder.{preorder, body_of, parts, parts_at, optional, node_count}
+use Rattle.pv_node.specs.declared.Node.{Node}
+use Rattle.pv_node.specs.declared.Body.{Body}
+use Rattle.pv_node.specs.declared.Body.TheOpen.{Body-F}
+use Rattle.pv_node.specs.Preorder.{preorder, body_of, parts, parts_at, node_count}
 use Rattle.pv_node.proofs.Openings.{opens}
-use Rattle.pv_plan.specs.declared.record.Record.{Record}
-use Rattle.pv_plan.specs.Records.{Stands, Fits, places, op_at, slots_at, any, or_any, children_of, own_strict}
+use Rattle.pv_plan.proofs.Absent.{alone}
+use Rattle.pv_plan.specs.Records.{Stands, places, slots_at, any, or_any}
 use Rattle.pv_plan.specs.Layout.{numbers, record_at, table_from, table_of}
 
 abbrev all_of : List Node → List Node
@@ -97,14 +94,6 @@ numbered last at (m ∷ ns) zero n e =
     let same : at ≡ at + 0 = omega arith in ap (λ x. Some (record_at last at x)) here ∙ ap (λ k. Some (record_at last k n)) same
 numbered last at (m ∷ ns) (suc i) n e =
     let same : at + 1 + i ≡ at + suc i = omega arith in numbered last (at + 1) ns i n e ∙ ap (λ k. Some (record_at last k n)) same
-
-any_body : body_of any ≡ Body-F.Scalar rule.Any
-any_body =
-    ap (λ n. out-Body n.body) (out-roll-Node (record { own_ref = None; strict = None; body = body.Scalar rule.Any }))
-    ∙ ap out-Body (sym (rolls-Scalar rule.Any)) ∙ out-roll-Body (Body-F.Scalar rule.Any)
-
-alone : preorder any ≡ any ∷ []
-alone = opens any ∙ ap (λ b. any ∷ all_of (parts_at b)) any_body
 
 module _ (root : Node) where
   two : all_of (root ∷ any ∷ []) ≡ places root

@@ -1,6 +1,7 @@
 //! From a schema to its plan.
 
-ghost use Rattle.std.specs.Prelude.{◌≡◌, ◌≤◌, IfOk};
+ghost use Rattle.std.specs.Prelude.{◌≡◌, ◌≤◌, [], false, IfOk};
+ghost use Rattle.pv_rules.specs.Settings.{plain};
 ghost use Rattle.pv_node.specs.Preorder.{node_count};
 ghost use Rattle.pv_plan.specs.Layout.{table_of};
 ghost use Rattle.pv_plan.specs.BadPatterns.{bad_pattern};
@@ -12,12 +13,14 @@ use crate::plan::Plan;
 use crate::record::{Op, Record};
 use pv_node::{MAX_NODES, Node, Schema, count_nodes};
 use pv_rules::{ScalarRule, Settings};
-use pv_scalar::{PatternFault, Scalar};
+use pv_scalar::Scalar;
+use pv_text::Memory;
 use sqlite_items::Items;
 use std::alloc::Global;
 
 /// The record that stands for absent schemas: it takes any value.
-fn any(alloc: Global) -> Result<Record, BuildFault>
+fn any(alloc: Global) -> Result<Record, Memory>
+    ensures { IfOk result (λ r. r ≡ record { op = Op.Scalar (ScalarRule.Any, plain); children = []; strict = false; validate_default = false }) }
 {
     match Scalar::build(alloc, &ScalarRule::Any, &Settings::plain()) {
         Ok(scalar) => Ok(Record {
@@ -26,7 +29,7 @@ fn any(alloc: Global) -> Result<Record, BuildFault>
             strict: false,
             validate_default: false,
         }),
-        Err(_) => Err(BuildFault::Memory),
+        Err(_) => Err(Memory),
     }
 }
 

@@ -60,6 +60,7 @@ fn two(alloc: Global, first: u32, second: u32) -> Result<Items<u32>, Memory>
 
 /// Lays a node and all inside it. `last` is the number of what stands for absent schemas.
 #[cycle(lay)]
+#[tactic(auto, using(crate::proofs::Openings::search_opens))]
 pub(crate) fn lay(
     alloc: Global,
     table: &mut Items<Record>,
@@ -88,6 +89,7 @@ pub(crate) fn lay(
 
 /// Lays the child schemas of a node, and gives their numbers.
 #[cycle(lay)]
+#[tactic(auto, unfolding(crate::specs::Layout::table_from))]
 fn lay_children(
     alloc: Global,
     table: &mut Items<Record>,
@@ -126,6 +128,7 @@ fn lay_children(
 
 /// Lays the child schema under a key, where there is one.
 #[cycle(lay)]
+#[tactic(auto, unfolding(crate::specs::Layout::table_from))]
 fn lay_slot(
     alloc: Global,
     table: &mut Items<Record>,
@@ -148,6 +151,7 @@ fn lay_slot(
 
 /// Lays the child schema under a key.
 #[cycle(lay)]
+#[tactic(auto, unfolding(crate::specs::Layout::table_from))]
 fn lay_inner(
     alloc: Global,
     table: &mut Items<Record>,
@@ -168,6 +172,7 @@ fn lay_inner(
 
 /// Lays the child schema of a position of a tuple.
 #[cycle(lay)]
+#[tactic(auto, unfolding(crate::specs::Layout::table_from))]
 fn lay_position(
     alloc: Global,
     table: &mut Items<Record>,
@@ -188,6 +193,7 @@ fn lay_position(
 
 /// Lays the child schemas of the positions of a tuple.
 #[cycle(lay)]
+#[tactic(auto, unfolding(crate::specs::Layout::table_from))]
 fn lay_positions(
     alloc: Global,
     table: &mut Items<Record>,
