@@ -1,3 +1,5 @@
 pub mod Records
 pub mod Layout
 pub mod BadPatterns
+pub mod Faults
+pub mod Searching

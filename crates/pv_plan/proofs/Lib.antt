@@ -1,0 +1,4 @@
+pub mod Absent
+pub mod Openings
+pub mod Placed
+pub mod Tables

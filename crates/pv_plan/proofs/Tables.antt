@@ -1,0 +1,145 @@
+-- Tables grow at their ends.
+use Rattle.std.proofs.Common.{◌≡◌, ℕ, zero, suc, ◌+◌, ◌-◌, ◌<◌, ◌≤◌, Bool, false, List, [], ◌∷◌, ◌++◌, map, length, take, drop, get_or, slice_set, Option, Some, None, refl, ap, sym, ◌∙◌, arith}
+use Rattle.std.specs.List.{flat_map}
+use Rattle.std.proofs.lemmas.List.{take_more, flat_map_more, length-append, append-nil, append_assoc, set-append_right, map-append}
+use Rattle.std.proofs.lemmas.Grind.{flat_map-append}
+use Rattle.pv_rules.specs.Settings.{plain}
+use Rattle.pv_rules.specs.declared.GatherRule.{GatherRule}
+use Rattle.pv_rules.specs.declared.ScalarRule.TheVariants as rule
+use Rattle.pv_node.specs.declared.Node.{Node}
+use Rattle.pv_node.specs.declared.Body.{Body, out-Body, out-roll-Body}
+use Rattle.pv_node.specs.declared.Body.TheVariants as body
+use Rattle.pv_node.specs.declared.Body.TheVariants.{rolls-Dict}
+use Rattle.pv_node.specs.declared.Body.TheOpen.{Body-F}
+use Rattle.pv_node.specs.Preorder.{preorder, body_of, parts, parts_at, optional, node_count, nodes_count}
+use Rattle.pv_node.proofs.Openings.{opens}
+use Rattle.pv_plan.specs.declared.record.Op.{Op}
+use Rattle.pv_plan.specs.declared.record.Op.TheVariants as op
+use Rattle.pv_plan.specs.declared.record.Record.{Record}
+use Rattle.pv_plan.specs.Records.{any, places, op_at, slots_at, own_strict}
+use Rattle.pv_plan.proofs.Absent.{any_record}
+use Rattle.pv_plan.specs.Layout.{numbers, record_at, table_from, table_of}
+
+next_part : (all : List Node) (i : ℕ) (x : Node) → i < length all → x ≡ get_or all i x
+    → flat_map preorder (take i all) ++ preorder x ≡ flat_map preorder (take (i + 1) all)
+next_part all i x l here =
+    flat_map_more preorder [] (take i all) x ∙ ap (λ y. flat_map preorder (take i all ++ y ∷ [])) here ∙ ap (flat_map preorder) (sym (take_more all i x l))
+
+dict_opens : (r : GatherRule) (keys values : Option Node) → out-Body (body.Dict r keys values) ≡ Body-F.Dict r keys values
+dict_opens r keys values = ap out-Body (sym (rolls-Dict r keys values)) ∙ out-roll-Body (Body-F.Dict r keys values)
+
+module _ (last : ℕ) where
+  length-table : (at : ℕ) (ns : List Node) → length (table_from last at ns) ≡ length ns
+  unfolding table_from
+  length-table at [] = refl
+  length-table at (n ∷ ns) = ap suc (length-table (at + 1) ns)
+
+  table-append : (at : ℕ) (ns ms : List Node) → table_from last at (ns ++ ms) ≡ table_from last at ns ++ table_from last (at + length ns) ms
+  unfolding table_from
+  table-append at [] ms = let none : at ≡ at + 0 = omega arith in ap (λ k. table_from last k ms) none
+  table-append at (n ∷ ns) ms =
+      let same : at + 1 + length ns ≡ at + suc (length ns) = omega arith in
+      ap (λ rs. record_at last at n ∷ rs) (table-append (at + 1) ns ms ∙ ap (λ k. table_from last (at + 1) ns ++ table_from last k ms) same)
+
+  pub length_laid : (old table : List Record) (ns : List Node) → table ≡ old ++ table_from last (length old) ns → length table ≡ length old + length ns
+  length_laid old table ns e = ap length e ∙ length-append old (table_from last (length old) ns) ∙ ap (λ k. length old + k) (length-table (length old) ns)
+
+  -- two parts, one after the other
+  joined : (old table new : List Record) (ns ms : List Node) → table ≡ old ++ table_from last (length old) ns → new ≡ table ++ table_from last (length table) ms
+      → new ≡ old ++ table_from last (length old) (ns ++ ms)
+  joined old table new ns ms e f =
+      f ∙ ap (λ k. table ++ table_from last k ms) (length_laid old table ns e) ∙ ap (λ t. t ++ table_from last (length old + length ns) ms) e
+      ∙ append_assoc old (table_from last (length old) ns) _ ∙ ap (λ rs. old ++ rs) (sym (table-append (length old) ns ms))
+
+  pub laid_more : (old table new : List Record) (all : List Node) (i : ℕ) (x : Node) → i < length all → x ≡ get_or all i x
+      → table ≡ old ++ table_from last (length old) (flat_map preorder (take i all)) → new ≡ table ++ table_from last (length table) (preorder x)
+      → new ≡ old ++ table_from last (length old) (flat_map preorder (take (i + 1) all))
+  laid_more old table new all i x l here e f =
+      joined old table new (flat_map preorder (take i all)) (preorder x) e f
+      ∙ ap (λ ns. old ++ table_from last (length old) ns) (next_part all i x l here)
+
+  -- a record that is set once what follows it is laid
+  filled : (old mid table new : List Record) (r s : Record) (ns : List Node) → mid ≡ old ++ r ∷ [] → table ≡ mid ++ table_from last (length mid) ns → new ≡ slice_set table (length old) s
+      → new ≡ old ++ s ∷ table_from last (length old + 1) ns
+  filled old mid table new r s ns e f g =
+      let size : length mid ≡ length old + 1 = ap length e ∙ length-append old (r ∷ []) in
+      let whole : table ≡ old ++ r ∷ table_from last (length old + 1) ns =
+      f ∙ ap (λ k. mid ++ table_from last k ns) size ∙ ap (λ t. t ++ table_from last (length old + 1) ns) e ∙ append_assoc old (r ∷ []) _ in
+      let here : length old - length old ≡ 0 = omega arith in
+      g ∙ ap (λ t. slice_set t (length old) s) whole ∙ set-append_right old _ (length old) (length old) s refl (omega arith)
+      ∙ ap (λ k. old ++ slice_set (r ∷ table_from last (length old + 1) ns) k s) here
+
+  abbrev record_of : Op → List ℕ → Bool → Record
+  record_of o cs strict = record { op = o; children = cs; strict = strict; validate_default = false }
+
+  -- a node and all that is inside it
+  pub laid : (old mid table new : List Record) (at : ℕ) (r : Record) (n : Node) (o : Op) (cs : List ℕ) (strict : Bool) → at ≡ length old
+      → mid ≡ old ++ r ∷ [] → table ≡ mid ++ table_from last (length mid) (flat_map preorder (parts n))
+      → o ≡ op_at (body_of n) → cs ≡ numbers last (length mid) (slots_at (body_of n)) → strict ≡ own_strict n
+      → new ≡ slice_set table at (record { op = o; children = cs; strict = strict; validate_default = false }) → new ≡ old ++ table_from last (length old) (preorder n)
+  unfolding table_from
+  laid old mid table new at r n o cs strict place e f does num own g =
+      let size : length mid ≡ length old + 1 = ap length e ∙ length-append old (r ∷ []) in
+      let inner = flat_map preorder (parts n) in
+      filled old mid table new r (record_of o cs strict) inner e f (g ∙ ap (λ k. slice_set table k (record_of o cs strict)) place)
+      ∙ ap (λ p. old ++ record_of p cs strict ∷ table_from last (length old + 1) inner) does
+      ∙ ap (λ ks. old ++ record_of (op_at (body_of n)) ks strict ∷ table_from last (length old + 1) inner) (num ∙ ap (λ k. numbers last k (slots_at (body_of n))) size)
+      ∙ ap (λ b. old ++ record_of (op_at (body_of n)) (numbers last (length old + 1) (slots_at (body_of n))) b ∷ table_from last (length old + 1) inner) own
+      ∙ ap (λ ns. old ++ table_from last (length old) ns) (sym (opens n))
+
+  numbers_push : (at : ℕ) (ns : List Node) (n : Node) → numbers last at (map Some (ns ++ n ∷ [])) ≡ numbers last at (map Some ns) ++ (at + nodes_count ns) ∷ []
+  numbers_push at [] n = ap (λ k. k ∷ []) (omega arith)
+  numbers_push at (m ∷ ns) n =
+      let size = length-append (preorder m) (flat_map preorder ns) in
+      let same : at + node_count m + nodes_count ns ≡ at + length (preorder m ++ flat_map preorder ns) = omega (arith, size) in
+      ap (λ ks. at ∷ ks) (numbers_push (at + node_count m) ns n ∙ ap (λ k. numbers last (at + node_count m) (map Some ns) ++ k ∷ []) same)
+
+  pub numbers_more : (at size : ℕ) (places new : List ℕ) (all : List Node) (i : ℕ) (x : Node) → i < length all → x ≡ get_or all i x
+      → size ≡ at + nodes_count (take i all) → places ≡ numbers last at (map Some (take i all)) → new ≡ places ++ size ∷ [] → new ≡ numbers last at (map Some (take (i + 1) all))
+  numbers_more at size places new all i x l here e f g =
+      g ∙ ap (λ ps. ps ++ size ∷ []) f ∙ ap (λ k. numbers last at (map Some (take i all)) ++ k ∷ []) e ∙ sym (numbers_push at (take i all) x)
+      ∙ ap (λ y. numbers last at (map Some (take i all ++ y ∷ []))) here ∙ ap (λ ns. numbers last at (map Some ns)) (sym (take_more all i x l))
+
+  two_numbers : (at next first second : ℕ) (keys values : Option Node) → next ≡ at + nodes_count (optional keys)
+      → first ∷ [] ≡ numbers last at (keys ∷ []) → second ∷ [] ≡ numbers last next (values ∷ []) → first ∷ second ∷ [] ≡ numbers last at (keys ∷ values ∷ [])
+  two_numbers at next first second None values e f g =
+      let same : at + nodes_count (optional None) ≡ at = omega arith in
+      ap (λ ks. ks ++ second ∷ []) f ∙ ap (λ ks. last ∷ ks) (g ∙ ap (λ k. numbers last k (values ∷ [])) (e ∙ same))
+  two_numbers at next first second (Some n) values e f g =
+      let size : nodes_count (optional (Some n)) ≡ node_count n = ap length (append-nil (preorder n)) in
+      ap (λ ks. ks ++ second ∷ []) f ∙ ap (λ ks. at ∷ ks) (g ∙ ap (λ k. numbers last k (values ∷ [])) (e ∙ ap (λ k. at + k) size))
+
+  -- the child schemas of a dict
+  pub dict_laid : (old table new : List Record) (b : Body) (r : GatherRule) (keys values : Option Node) → b ≡ body.Dict r keys values
+      → table ≡ old ++ table_from last (length old) (flat_map preorder (optional keys)) → new ≡ table ++ table_from last (length table) (flat_map preorder (optional values))
+      → new ≡ old ++ table_from last (length old) (flat_map preorder (parts_at (out-Body b)))
+  dict_laid old table new b r keys values is e f =
+      joined old table new (flat_map preorder (optional keys)) (flat_map preorder (optional values)) e f
+      ∙ ap (λ ns. old ++ table_from last (length old) ns) (sym (flat_map-append preorder (optional keys) (optional values)))
+      ∙ ap (λ x. old ++ table_from last (length old) (flat_map preorder (parts_at x))) (sym (ap out-Body is ∙ dict_opens r keys values))
+
+  pub dict_numbered : (old table : List Record) (first second : ℕ) (all : List ℕ) (b : Body) (r : GatherRule) (keys values : Option Node) → b ≡ body.Dict r keys values
+      → table ≡ old ++ table_from last (length old) (flat_map preorder (optional keys))
+      → first ∷ [] ≡ numbers last (length old) (keys ∷ []) → second ∷ [] ≡ numbers last (length table) (values ∷ []) → all ≡ first ∷ second ∷ []
+      → all ≡ numbers last (length old) (slots_at (out-Body b))
+  dict_numbered old table first second all b r keys values is e f g h =
+      h ∙ two_numbers (length old) (length table) first second keys values (length_laid old table (flat_map preorder (optional keys)) e) f g
+      ∙ ap (λ x. numbers last (length old) (slots_at x)) (sym (ap out-Body is ∙ dict_opens r keys values))
+
+length-table_of : (root : Node) → length (table_of root) ≡ node_count root + 1
+unfolding table_of
+length-table_of root = length-table (node_count root) 0 (places root) ∙ length-append (preorder root) (any ∷ [])
+
+pub counted : (root seen : Node) (table : List Record) → table ≡ table_of seen → seen ≡ root → length table ≡ node_count root + 1
+counted root seen table e f = ap length e ∙ length-table_of seen ∙ ap (λ n. node_count n + 1) f
+
+-- the records of all nodes, and one more
+pub finished : (root : Node) (mid table new : List Record) (last : ℕ) (r : Record) → mid ≡ [] → last ≡ node_count root
+    → table ≡ mid ++ table_from last (length mid) (preorder root)
+    → r ≡ record { op = op.Scalar (rule.Any, plain); children = []; strict = false; validate_default = false } → new ≡ table ++ r ∷ [] → new ≡ table_of root
+unfolding table_of table_from
+finished root mid table new last r none count e f g =
+    let nodes = preorder root in
+    g ∙ ap (λ t. t ++ r ∷ []) (e ∙ ap (λ m. m ++ table_from last (length m) nodes) none ∙ ap (λ k. table_from k 0 nodes) count)
+    ∙ ap (λ x. table_from (length nodes) 0 nodes ++ x ∷ []) (f ∙ sym (any_record (length nodes) (0 + length nodes)))
+    ∙ sym (table-append (length nodes) 0 nodes (any ∷ []))

@@ -1,0 +1,6 @@
+use Rattle.pv_plan.proofs.Tables.{finished}
+use Rattle.pv_plan.proofs.building.table.Goals as goal
+
+pub returns-clause-table : goal.returns-clause-table
+returns-clause-table c =
+    finished c.args.root.now _ _ _ _ _ c.new-table.ensures c.in_ok-last.ensures c.in_ok-lay.ensures.table c.in_ok-any.ensures c.in_ok-push.ensures.ok

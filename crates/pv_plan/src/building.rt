@@ -1,0 +1,56 @@
+//! From a schema to its plan.
+
+ghost use Rattle.std.specs.Prelude.{◌≡◌, ◌≤◌, [], false, IfOk};
+ghost use Rattle.pv_rules.specs.Settings.{plain};
+ghost use Rattle.pv_node.specs.Preorder.{node_count};
+ghost use Rattle.pv_plan.specs.Layout.{table_of};
+ghost use Rattle.pv_plan.specs.BadPatterns.{bad_pattern};
+ghost use Rattle.pv_plan.specs.Faults.{Finds};
+
+use crate::faults::BuildFault;
+use crate::laying::lay;
+use crate::plan::Plan;
+use crate::record::{Op, Record};
+use pv_node::{MAX_NODES, Node, Schema, count_nodes};
+use pv_rules::{ScalarRule, Settings};
+use pv_scalar::Scalar;
+use pv_text::Memory;
+use sqlite_items::Items;
+use std::alloc::Global;
+
+/// The record that stands for absent schemas: it takes any value.
+fn any(alloc: Global) -> Result<Record, Memory>
+    ensures { IfOk result (λ r. r ≡ record { op = Op.Scalar (ScalarRule.Any, plain); children = []; strict = false; validate_default = false }) }
+{
+    match Scalar::build(alloc, &ScalarRule::Any, &Settings::plain()) {
+        Ok(scalar) => Ok(Record {
+            op: Op::Scalar(scalar),
+            children: Items::new(alloc),
+            strict: false,
+            validate_default: false,
+        }),
+        Err(_) => Err(Memory),
+    }
+}
+
+fn table(alloc: Global, root: &Node) -> Result<Items<Record>, BuildFault>
+    requires { node_count root.now ≤ MAX_NODES }
+    ensures table { IfOk result (λ table. table ≡ table_of root.now) }
+    ensures pattern { Finds result (bad_pattern root.now) }
+{
+    let last = count_nodes(root)? as u32;
+    let mut table = Items::new(alloc);
+    lay(alloc, &mut table, last, root)?;
+    table.push(any(alloc)?)?;
+    Ok(table)
+}
+
+/// The plan of a schema, or the first of its patterns that cannot be read.
+pub fn build(alloc: Global, schema: &Schema) -> Result<Plan, BuildFault>
+    ensures value { IfOk result (λ p. p ≡ schema.now) }
+    ensures pattern { Finds result (bad_pattern schema.now) }
+{
+    let table = table(alloc, schema.root())?;
+    let schema = schema.share()?;
+    Ok(Plan { table, schema })
+}

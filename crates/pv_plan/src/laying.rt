@@ -1,0 +1,212 @@
+//! The records of nodes, laid one after another.
+
+ghost use Rattle.std.specs.Prelude.{◌≡◌, [], ◌∷◌, ◌++◌, length, map, codes, IfOk, OnOk};
+ghost use Rattle.std.specs.List.{flat_map};
+ghost use Rattle.pv_tree.specs.declared.Step.TheVariants.{Name, Index};
+ghost use Rattle.pv_node.specs.declared.Body.{out-Body};
+ghost use Rattle.pv_node.specs.Preorder.{preorder, parts_at, optional};
+ghost use Rattle.pv_plan.specs.Records.{slots_at};
+ghost use Rattle.pv_plan.specs.Layout.{numbers, table_from};
+ghost use Rattle.pv_plan.specs.BadPatterns as spec;
+ghost use Rattle.pv_plan.specs.Faults.{Finds};
+ghost use Rattle.pv_plan.specs.Searching.{in_children};
+
+use crate::faults::{BuildFault, under_key, under_position};
+use crate::operations::operation;
+use crate::record::{Op, Record};
+use pv_node::{Body, Node};
+use pv_text::Memory;
+use sqlite_items::{Boxed, Items};
+use std::alloc::Global;
+
+/// The number of the record at this place. A schema has few enough nodes for each to have one; a
+/// place that has none is refused as want of memory.
+pub(crate) fn number(place: usize) -> Result<u32, Memory>
+    ensures { IfOk result (λ n. n ≡ place) }
+{
+    if place <= 4_294_967_295 {
+        Ok(place as u32)
+    } else {
+        Err(Memory)
+    }
+}
+
+/// What stands for a node until its children are laid.
+fn vacant(alloc: Global) -> Record {
+    Record {
+        op: Op::Nullable,
+        children: Items::new(alloc),
+        strict: false,
+        validate_default: false,
+    }
+}
+
+fn one(alloc: Global, number: u32) -> Result<Items<u32>, Memory>
+    ensures { IfOk result (λ all. all ≡ number ∷ []) }
+{
+    let mut all = Items::new(alloc);
+    all.push(number)?;
+    Ok(all)
+}
+
+fn two(alloc: Global, first: u32, second: u32) -> Result<Items<u32>, Memory>
+    ensures { IfOk result (λ all. all ≡ first ∷ second ∷ []) }
+{
+    let mut all = Items::new(alloc);
+    all.push(first)?;
+    all.push(second)?;
+    Ok(all)
+}
+
+/// Lays a node and all inside it. `last` is the number of what stands for absent schemas.
+#[cycle(lay)]
+#[tactic(auto, using(crate::proofs::Openings::search_opens))]
+pub(crate) fn lay(
+    alloc: Global,
+    table: &mut Items<Record>,
+    last: u32,
+    node: &Node,
+) -> Result<(), BuildFault>
+    ensures table { OnOk result (table.new ≡ table.old ++ table_from last (length table.old) (preorder node.now)) }
+    ensures pattern { Finds result (spec.bad_pattern node.now) }
+{
+    let at = table.len();
+    let op = operation(alloc, &node.body)?;
+    table.push(vacant(alloc))?;
+    let children = lay_children(alloc, table, last, &node.body)?;
+    let strict = node.strict.unwrap_or(false);
+    table.set(
+        at,
+        Record {
+            op,
+            children,
+            strict,
+            validate_default: false,
+        },
+    );
+    Ok(())
+}
+
+/// Lays the child schemas of a node, and gives their numbers.
+#[cycle(lay)]
+#[tactic(auto, unfolding(crate::specs::Layout::table_from))]
+fn lay_children(
+    alloc: Global,
+    table: &mut Items<Record>,
+    last: u32,
+    body: &Body,
+) -> Result<Items<u32>, BuildFault>
+    ensures table { OnOk result (table.new ≡ table.old ++ table_from last (length table.old) (flat_map preorder (parts_at (out-Body body.now)))) }
+    ensures numbers { IfOk result (λ all. all ≡ numbers last (length table.old) (slots_at (out-Body body.now))) }
+    ensures pattern { Finds result (in_children spec.bad_pattern (out-Body body.now)) }
+{
+    match body {
+        Body::Scalar(_) => Ok(Items::new(alloc)),
+        Body::Sequence { items_schema, .. } => {
+            let items = lay_slot(alloc, table, last, "items_schema", items_schema)?;
+            Ok(one(alloc, items)?)
+        }
+        Body::Tuple { items_schema, .. } => {
+            let all = lay_positions(alloc, table, last, items_schema.as_slice())?;
+            Ok(all)
+        }
+        Body::Dict {
+            keys_schema,
+            values_schema,
+            ..
+        } => {
+            let keys = lay_slot(alloc, table, last, "keys_schema", keys_schema)?;
+            let values = lay_slot(alloc, table, last, "values_schema", values_schema)?;
+            Ok(two(alloc, keys, values)?)
+        }
+        Body::Nullable { schema } => {
+            let inner = lay_inner(alloc, table, last, "schema", schema.get())?;
+            Ok(one(alloc, inner)?)
+        }
+    }
+}
+
+/// Lays the child schema under a key, where there is one.
+#[cycle(lay)]
+#[tactic(auto, unfolding(crate::specs::Layout::table_from))]
+fn lay_slot(
+    alloc: Global,
+    table: &mut Items<Record>,
+    last: u32,
+    key: &str,
+    slot: &Option<Boxed<Node>>,
+) -> Result<u32, BuildFault>
+    ensures table { OnOk result (table.new ≡ table.old ++ table_from last (length table.old) (flat_map preorder (optional slot.now))) }
+    ensures number { IfOk result (λ n. n ∷ [] ≡ numbers last (length table.old) (slot.now ∷ [])) }
+    ensures pattern { Finds result (spec.in_slot spec.bad_pattern (Name key.now ∷ []) slot.now) }
+{
+    match slot {
+        None => Ok(last),
+        Some(node) => {
+            let at = lay_inner(alloc, table, last, key, node.get())?;
+            Ok(at)
+        }
+    }
+}
+
+/// Lays the child schema under a key.
+#[cycle(lay)]
+#[tactic(auto, unfolding(crate::specs::Layout::table_from))]
+fn lay_inner(
+    alloc: Global,
+    table: &mut Items<Record>,
+    last: u32,
+    key: &str,
+    node: &Node,
+) -> Result<u32, BuildFault>
+    ensures table { OnOk result (table.new ≡ table.old ++ table_from last (length table.old) (preorder node.now)) }
+    ensures number { IfOk result (λ n. n ≡ length table.old) }
+    ensures pattern { Finds result (spec.behind (Name key.now ∷ []) (spec.bad_pattern node.now)) }
+{
+    let at = number(table.len())?;
+    match lay(alloc, table, last, node) {
+        Ok(()) => Ok(at),
+        Err(fault) => Err(under_key(alloc, fault, key)),
+    }
+}
+
+/// Lays the child schema of a position of a tuple.
+#[cycle(lay)]
+#[tactic(auto, unfolding(crate::specs::Layout::table_from))]
+fn lay_position(
+    alloc: Global,
+    table: &mut Items<Record>,
+    last: u32,
+    position: u64,
+    node: &Node,
+) -> Result<u32, BuildFault>
+    ensures table { OnOk result (table.new ≡ table.old ++ table_from last (length table.old) (preorder node.now)) }
+    ensures number { IfOk result (λ n. n ≡ length table.old) }
+    ensures pattern { Finds result (spec.behind (Name (codes "items_schema") ∷ Index position ∷ []) (spec.bad_pattern node.now)) }
+{
+    let at = number(table.len())?;
+    match lay(alloc, table, last, node) {
+        Ok(()) => Ok(at),
+        Err(fault) => Err(under_position(alloc, fault, position)),
+    }
+}
+
+/// Lays the child schemas of the positions of a tuple.
+#[cycle(lay)]
+#[tactic(auto, unfolding(crate::specs::Layout::table_from))]
+fn lay_positions(
+    alloc: Global,
+    table: &mut Items<Record>,
+    last: u32,
+    nodes: &[Node],
+) -> Result<Items<u32>, BuildFault>
+    ensures table { OnOk result (table.new ≡ table.old ++ table_from last (length table.old) (flat_map preorder nodes.now)) }
+    ensures numbers { IfOk result (λ all. all ≡ numbers last (length table.old) (map Some nodes.now)) }
+    ensures pattern { Finds result (spec.in_positions spec.bad_pattern 0 nodes.now) }
+{
+    let mut all = Items::new(alloc);
+    for (position, node) in nodes.iter().enumerate() {
+        all.push(lay_position(alloc, table, last, position as u64, node)?)?;
+    }
+    Ok(all)
+}

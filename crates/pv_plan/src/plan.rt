@@ -1,0 +1,61 @@
+use crate::record::Record;
+use pv_node::Schema;
+use sqlite_items::Items;
+use std::marker::Model;
+
+/// The records of a schema by their numbers. Contracts see it as the root of the schema.
+#[derive(Drop)]
+pub struct Plan {
+    pub(crate) table: Items<Record>,
+    pub(crate) schema: Schema,
+}
+
+impl Model for Plan {
+    ghost use Rattle.std.specs.Prelude.{◌≡◌};
+    ghost use Rattle.pv_node.specs.declared.Node.{Node};
+    ghost use Rattle.pv_node.specs.contracts.node.Body as body;
+    ghost use Rattle.pv_plan.specs.Layout.{table_of};
+    ghost use Rattle.std.specs.Coded.{codes};
+
+    ghost Value = { Node };
+
+    ghost coded = { Prim.hlevel (codes, body.the_row.coded) };
+
+    ghost view = { λ p. p.schema };
+
+    ghost invariant = { λ p. p.table ≡ table_of p.schema };
+}
+
+impl Plan {
+    ghost use Rattle.std.specs.Prelude.{◌≡◌, ◌≤◌, Some, slice_get};
+    ghost use Rattle.pv_node.specs.Preorder.{node_count};
+    ghost use Rattle.pv_plan.specs.Layout.{table_of};
+
+    /// The number of the root's record.
+    pub fn root(&self) -> u32
+        ensures { result ≡ 0 }
+    {
+        0
+    }
+
+    /// How many nodes the schema has. The record of this number stands for absent schemas.
+    pub fn nodes(&self) -> u64
+        ensures { result ≡ node_count self.now }
+    {
+        self.table.len() as u64 - 1
+    }
+
+    /// The record of a number.
+    pub fn slot(&self, number: u32) -> &Record
+        requires { number ≤ node_count self.now }
+        ensures { slice_get (table_of self.now) number ≡ Some result.now }
+    {
+        &self.table.as_slice()[number as usize]
+    }
+
+    pub fn as_slice(&self) -> &[Record]
+        ensures { result.now ≡ table_of self.now }
+    {
+        self.table.as_slice()
+    }
+}
