@@ -1,0 +1,10 @@
+//! An index of values that finds an equal value among those that came before.
+#![tactic(auto)]
+
+mod key;
+mod making;
+mod token;
+
+pub use key::Key;
+pub use making::make_key;
+pub use token::Token;
