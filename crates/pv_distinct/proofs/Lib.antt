@@ -1,1 +1,6 @@
 pub mod Numbers
+pub mod Ordering
+pub mod Cutting
+pub mod Levels
+pub mod Telling
+pub mod Making

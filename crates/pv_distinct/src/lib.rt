@@ -2,9 +2,11 @@
 #![tactic(auto)]
 
 mod key;
+mod laws;
 mod making;
 mod token;
 
 pub use key::Key;
+pub use laws::keys_tell_values;
 pub use making::make_key;
 pub use token::Token;

@@ -1,6 +1,6 @@
 //! How keys are made.
 
-ghost use Rattle.std.specs.Prelude.{◌≡◌, [], ◌∷◌, ◌++◌, map, OnOk, IfOk};
+ghost use Rattle.std.specs.Prelude.{◌≡◌, [], ◌∷◌, ◌++◌, map, pos, if◌then◌else◌, OnOk, IfOk};
 ghost use Rattle.pv_distinct.specs.Keys as spec;
 ghost use Rattle.pv_distinct.specs.Keys.{key};
 
@@ -19,7 +19,14 @@ fn append_set(out: &mut Key, keys: BTreeSet<Key>) -> Result<(), Memory>
     for key in keys {
         out.append(key)?;
     }
-    out.push(Token::End)
+    out.push(Token::End)?;
+    Ok(())
+}
+
+fn flag_value(flag: bool) -> i128
+    ensures { result ≡ pos (if flag then 1 else 0) }
+{
+    if flag { 1 } else { 0 }
 }
 
 #[cycle(key)]
@@ -44,7 +51,8 @@ fn write_set(alloc: Global, values: &[Value], out: &mut Key) -> Result<(), Memor
         item.push(Token::Name(name.share(alloc)?))?;
         keys.insert(item)?;
     }
-    append_set(out, keys)
+    append_set(out, keys)?;
+    Ok(())
 }
 
 #[cycle(key)]
@@ -60,7 +68,8 @@ fn write_entries(alloc: Global, entries: &[(Value, Value)], out: &mut Key) -> Re
         item.push(Token::Name(name.share(alloc)?))?;
         keys.insert(item)?;
     }
-    append_set(out, keys)
+    append_set(out, keys)?;
+    Ok(())
 }
 
 #[cycle(key)]
@@ -74,7 +83,8 @@ fn write_fields(alloc: Global, fields: &[(Text, Value)], out: &mut Key) -> Resul
         item.push(Token::Name(name.share(alloc)?))?;
         keys.insert(item)?;
     }
-    append_set(out, keys)
+    append_set(out, keys)?;
+    Ok(())
 }
 
 /// Appends the key of a value.
@@ -83,44 +93,44 @@ fn write_key(alloc: Global, value: &Value, out: &mut Key) -> Result<(), Memory>
     ensures { OnOk result (out.new ≡ out.old ++ key value.now) }
 {
     match value {
-        Value::None => out.push(Token::None),
-        Value::Bool(flag) => out.push(Token::Int(if *flag { 1 } else { 0 })),
-        Value::Int(n) => out.push(Token::Int(*n)),
-        Value::Lexeme(lexeme) => out.push(Token::Lexeme(lexeme.share(alloc)?)),
-        Value::Str(text) => out.push(Token::Str(text.share(alloc)?)),
+        Value::None => out.push(Token::None)?,
+        Value::Bool(flag) => out.push(Token::Int(flag_value(*flag)))?,
+        Value::Int(n) => out.push(Token::Int(*n))?,
+        Value::Lexeme(lexeme) => out.push(Token::Lexeme(lexeme.share(alloc)?))?,
+        Value::Str(text) => out.push(Token::Str(text.share(alloc)?))?,
         Value::Bytes(bytes) => {
-            out.push(Token::Bytes(Bytes::from_slice(alloc, bytes.as_slice())?))
+            out.push(Token::Bytes(Bytes::from_slice(alloc, bytes.as_slice())?))?
         }
-        Value::Atom { kind, text } => out.push(Token::Atom(*kind, text.share(alloc)?)),
+        Value::Atom { kind, text } => out.push(Token::Atom(*kind, text.share(alloc)?))?,
         Value::Enum { cls, name, value } => {
             out.push(Token::Enum(cls.share(alloc)?, name.share(alloc)?))?;
             write_key(alloc, value.get(), out)?;
-            out.push(Token::End)
+            out.push(Token::End)?;
         }
         Value::List(values) => {
             out.push(Token::List)?;
             write_items(alloc, values.as_slice(), out)?;
-            out.push(Token::End)
+            out.push(Token::End)?;
         }
         Value::Tuple(values) => {
             out.push(Token::Tuple)?;
             write_items(alloc, values.as_slice(), out)?;
-            out.push(Token::End)
+            out.push(Token::End)?;
         }
         Value::Set(values) => {
             out.push(Token::Set)?;
             write_set(alloc, values.as_slice(), out)?;
-            out.push(Token::End)
+            out.push(Token::End)?;
         }
         Value::Frozen(values) => {
             out.push(Token::Set)?;
             write_set(alloc, values.as_slice(), out)?;
-            out.push(Token::End)
+            out.push(Token::End)?;
         }
         Value::Dict(entries) => {
             out.push(Token::Dict)?;
             write_entries(alloc, entries.as_slice(), out)?;
-            out.push(Token::End)
+            out.push(Token::End)?;
         }
         Value::Model {
             cls, fields, extra, ..
@@ -128,14 +138,15 @@ fn write_key(alloc: Global, value: &Value, out: &mut Key) -> Result<(), Memory>
             out.push(Token::Model(cls.share(alloc)?))?;
             write_fields(alloc, fields.as_slice(), out)?;
             write_fields(alloc, extra.as_slice(), out)?;
-            out.push(Token::End)
+            out.push(Token::End)?;
         }
         Value::Root { cls, value } => {
             out.push(Token::Root(cls.share(alloc)?))?;
             write_key(alloc, value.get(), out)?;
-            out.push(Token::End)
+            out.push(Token::End)?;
         }
     }
+    Ok(())
 }
 
 pub fn make_key(alloc: Global, value: &Value) -> Result<Key, Memory>
