@@ -3,4 +3,5 @@ pub mod Ordering
 pub mod Cutting
 pub mod Levels
 pub mod Telling
-pub mod Making
+pub mod Appending
+pub mod Sightings

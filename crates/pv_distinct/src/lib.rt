@@ -4,9 +4,8 @@
 mod key;
 mod laws;
 mod making;
+mod seen;
 mod token;
 
-pub use key::Key;
 pub use laws::keys_tell_values;
-pub use making::make_key;
-pub use token::Token;
+pub use seen::{Place, Seen};

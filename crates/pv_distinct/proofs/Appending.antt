@@ -29,7 +29,10 @@ written o a b c m k t u p q r s =
 pub twice : (a b c m n : Key) → b ≡ a ++ m → c ≡ b ++ n → c ≡ a ++ (m ++ n)
 twice a b c m n p q = q ∙ (λ i. p i ++ n) ∙ append_assoc a m n
 
-pub key_dict : (v : Value) (es : List (Value × Value)) → v ≡ value.Dict es → key v ≡ token.Dict ∷ (set_key (map entry_key (map (λ e. (key e.0, key e.1)) es)) ++ token.End ∷ [])
+abbrev pub entries_key : List (Value × Value) → Key
+entries_key es = set_key (map entry_key (map (λ e. (key e.0, key e.1)) es))
+
+pub key_dict : (v : Value) (es : List (Value × Value)) → v ≡ value.Dict es → key v ≡ token.Dict ∷ (entries_key es ++ token.End ∷ [])
 key_dict v es p = ap key (p ∙ sym (rolls-Dict es)) ∙ fold-roll-Value Key key_at (Value-F.Dict es)
 
 abbrev pub fields_key : List (List ℕ × Value) → Key
