@@ -1,6 +1,6 @@
 -- What an index finds, and what it has seen when one more value came.
 use Rattle.std.proofs.Common.{◌≡◌, ℕ, ◌+◌, Bool, true, false, cond, ◌||◌, List, [], ◌∷◌, ◌++◌, length, length-append, refl, sym, ap, ◌∙◌, subst, arith}
-use Rattle.std.specs.Prelude.{Option, None, Some}
+use Rattle.std.specs.Prelude.{Option, None, Some, is_some}
 use Rattle.std.specs.List.{position_from, list_any}
 use Rattle.std.specs.declared.cmp.Ordering.TheVariants.{Equal}
 use Rattle.std.specs.Ordering.{is_eq}
@@ -105,3 +105,12 @@ module _ (s : Seen) (kept : List Value) (v : Value) (h : IsSeen s kept) where
       where
         length_last : (xs : List Value) → length (xs ++ v ∷ []) ≡ length xs + 1
         length_last xs = simp length-append refl
+
+  -- the same, as an insertion says it
+  pub kept_added : (n : Seen) (k : Key) (m : ℕ) (o : Option ℕ) → get key_cmp s.places (key v) ≡ None → k ≡ key v → m ≡ btree_map_len s.places
+      → Updates key_cmp s.places n.places k (Some m) → o ≡ get key_cmp s.places k → btree_map_len n.places ≡ btree_map_len s.places + cond (is_some o) 0 1 → IsSeen n (put_item kept v)
+  kept_added n k m o e p q u f c =
+      let u1 : Updates key_cmp s.places n.places (key v) (Some m) = subst (λ l. Updates key_cmp s.places n.places l (Some m)) p u in
+      let u2 : Updates key_cmp s.places n.places (key v) (Some (btree_map_len s.places)) = subst (λ l. Updates key_cmp s.places n.places (key v) (Some l)) q u1 in
+      let g : o ≡ None = f ∙ (λ i. get key_cmp s.places (p i)) ∙ e in
+      kept_new e n u2 (c ∙ (λ i. btree_map_len s.places + cond (is_some (g i)) 0 1))
