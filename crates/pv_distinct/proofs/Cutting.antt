@@ -36,10 +36,10 @@ unfolding token_cmp
 token_told t u =
     then_told (nat_cmp (token_kind t) (token_kind u)) (contents_cmp t u)
     ∙ (λ i. is_eq (nat_cmp (token_kind t) (token_kind u)) && (
-      then_told (number_cmp (token_number t) (token_number u)) (ordering_then (slice_cmp nat_cmp (token_first t) (token_first u)) (slice_cmp nat_cmp (token_second t) (token_second u)))
-      ∙ (λ j. same_number (token_number t) (token_number u) && (
-        then_told (slice_cmp nat_cmp (token_first t) (token_first u)) (slice_cmp nat_cmp (token_second t) (token_second u))
-        ∙ (λ k. is_eq-slice_cmp (token_first t) (token_first u) k && is_eq-slice_cmp (token_second t) (token_second u) k)) j)) i)
+    then_told (number_cmp (token_number t) (token_number u)) (ordering_then (slice_cmp nat_cmp (token_first t) (token_first u)) (slice_cmp nat_cmp (token_second t) (token_second u)))
+    ∙ (λ j. same_number (token_number t) (token_number u) && (
+    then_told (slice_cmp nat_cmp (token_first t) (token_first u)) (slice_cmp nat_cmp (token_second t) (token_second u))
+    ∙ (λ k. is_eq-slice_cmp (token_first t) (token_first u) k && is_eq-slice_cmp (token_second t) (token_second u) k)) j)) i)
 
 same_nat : (m n : ℕ) → is_eq (nat_cmp m n) ≡ true → m ≡ n
 same_nat m n e = grind (arith, nat_tests)
@@ -101,7 +101,7 @@ module _ {X : Type 0} (code : X → Key) (like : X → X → Bool) (Q : X → Ty
   cut_list (x ∷ xs) [] q c g r s e f h = absurd (clash_back p s (code x) (codes xs ++ r) f (begins x q.0) (subst (λ k. alike_keys k s ≡ true) (append_assoc (code x) (codes xs) r) h))
   cut_list (x ∷ xs) (y ∷ ys) q c g r s e f h =
       let h1 : alike_keys (code x ++ (codes xs ++ r)) (code y ++ (codes ys ++ s)) ≡ true
-          = sym (λ i. alike_keys (append_assoc (code x) (codes xs) r i) (append_assoc (code y) (codes ys) s i)) ∙ h in
+      = sym (λ i. alike_keys (append_assoc (code x) (codes xs) r i) (append_assoc (code y) (codes ys) s i)) ∙ h in
       let k = c.0 y g.0 (codes xs ++ r) (codes ys ++ s) h1 in
       let l = cut_list xs ys q.1 c.1 g.1 r s e f k.1 in
       (both k.0 l.0, l.1)

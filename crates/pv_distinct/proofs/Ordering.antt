@@ -106,24 +106,24 @@ module _ {K : Type 0} (cmp : K → K → Ordering) where
     rest_among x y xs ys e a m z i =
         let l = m z (inr i) in
         elim l.1 [
-          inl q ↦
-            let p : cmp x z ≡ Less = at (Above x) xs z a i in
-            let b : cmp z y ≡ Greater = back y z Less (sym (total.congr x y z e) ∙ p) in
-            let c : cmp z y ≡ Equal = subst (λ w. cmp z w ≡ Equal) (sym q) l.2 in
-            cc
-        | inr j ↦ (l.0, j, l.2)
+          | inl q ↦
+              let p : cmp x z ≡ Less = at (Above x) xs z a i in
+              let b : cmp z y ≡ Greater = back y z Less (sym (total.congr x y z e) ∙ p) in
+              let c : cmp z y ≡ Equal = subst (λ w. cmp z w ≡ Equal) (sym q) l.2 in
+              cc
+          | inr j ↦ (l.0, j, l.2)
         ]
 
     rest_back : (x y : K) (xs ys : List K) → cmp x y ≡ Equal → AllByRecursion (Above y) ys → Back (x ∷ xs) (y ∷ ys) → Back xs ys
     rest_back x y xs ys e a m z i =
         let l = m z (inr i) in
         elim l.1 [
-          inl q ↦
-            let p : cmp y z ≡ Less = at (Above y) ys z a i in
-            let b : cmp x z ≡ Less = total.congr x y z e ∙ p in
-            let c : cmp x z ≡ Equal = subst (λ w. cmp w z ≡ Equal) (sym q) l.2 in
-            cc
-        | inr j ↦ (l.0, j, l.2)
+          | inl q ↦
+              let p : cmp y z ≡ Less = at (Above y) ys z a i in
+              let b : cmp x z ≡ Less = total.congr x y z e ∙ p in
+              let c : cmp x z ≡ Equal = subst (λ w. cmp w z ≡ Equal) (sym q) l.2 in
+              cc
+          | inr j ↦ (l.0, j, l.2)
         ]
 
     heads : (o : Ordering) (x y : K) (xs ys : List K) → cmp x y ≡ o → Ascends (x ∷ xs) → Ascends (y ∷ ys) → Among (x ∷ xs) (y ∷ ys) → Back (x ∷ xs) (y ∷ ys) → cmp x y ≡ Equal
@@ -131,20 +131,20 @@ module _ {K : Type 0} (cmp : K → K → Ordering) where
     heads Less x y xs ys e a b m n =
         let l = m x (inl refl) in
         elim l.1 [
-          inl q ↦ subst (λ w. cmp x w ≡ Equal) (sym q) l.2
-        | inr j ↦
-            let p : cmp x l.0 ≡ Less = total.trans x y l.0 e (at (Above y) ys l.0 b.0 j) in
-            let c : cmp x l.0 ≡ Equal = l.2 in
-            cc
+          | inl q ↦ subst (λ w. cmp x w ≡ Equal) (sym q) l.2
+          | inr j ↦
+              let p : cmp x l.0 ≡ Less = total.trans x y l.0 e (at (Above y) ys l.0 b.0 j) in
+              let c : cmp x l.0 ≡ Equal = l.2 in
+              cc
         ]
     heads Greater x y xs ys e a b m n =
         let l = n y (inl refl) in
         elim l.1 [
-          inl q ↦ subst (λ w. cmp w y ≡ Equal) (sym q) l.2
-        | inr j ↦
-            let p : cmp y l.0 ≡ Less = total.trans y x l.0 (back x y Greater e) (at (Above x) xs l.0 a.0 j) in
-            let c : cmp y l.0 ≡ Equal = back l.0 y Equal l.2 in
-            cc
+          | inl q ↦ subst (λ w. cmp w y ≡ Equal) (sym q) l.2
+          | inr j ↦
+              let p : cmp y l.0 ≡ Less = total.trans y x l.0 (back x y Greater e) (at (Above x) xs l.0 a.0 j) in
+              let c : cmp y l.0 ≡ Equal = back l.0 y Equal l.2 in
+              cc
         ]
 
     pub same_lists : (xs ys : List K) → Ascends xs → Ascends ys → Among xs ys → Back xs ys → pointwise (eq_by_cmp cmp) xs ys ≡ true

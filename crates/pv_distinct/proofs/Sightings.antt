@@ -96,7 +96,7 @@ module _ (s : Seen) (kept : List Value) (v : Value) (h : IsSeen s kept) where
     found_new k =
         u.0 k ∙ found_at (is_eq (key_cmp (key v) k)) k refl
         ∙ sym (one_more (λ w. is_eq (key_cmp k (key w))) 0 kept v
-          ∙ (λ i. or_else (position_from (λ w. is_eq (key_cmp k (key w))) 0 kept) (cond ((eq_by_cmp_equiv keys_total).symm k (key v) i) (Some (0 + length kept)) None)))
+        ∙ (λ i. or_else (position_from (λ w. is_eq (key_cmp k (key w))) 0 kept) (cond ((eq_by_cmp_equiv keys_total).symm k (key v) i) (Some (0 + length kept)) None)))
 
     pub kept_new : btree_map_len n.places ≡ btree_map_len s.places + 1 → IsSeen n (put_item kept v)
     kept_new c =

@@ -108,7 +108,7 @@ part_forth p q a h =
 part_back : (p q : Part Value) → TellsPart p → (r s : Key) → alike_keys (part_key p ++ r) (part_key q ++ s) ≡ true → (same_part same p q ≡ true) × (alike_keys r s ≡ true)
 part_back p q a r s h =
     let h1 : alike_keys (joined (map key p.1) ++ token.Name p.0 ∷ r) (joined (map key q.1) ++ token.Name q.0 ∷ s) ≡ true
-        = sym (λ i. alike_keys (append_assoc (joined (map key p.1)) (token.Name p.0 ∷ []) r i) (append_assoc (joined (map key q.1)) (token.Name q.0 ∷ []) s i)) ∙ h in
+    = sym (λ i. alike_keys (append_assoc (joined (map key p.1)) (token.Name p.0 ∷ []) r i) (append_assoc (joined (map key q.1)) (token.Name q.0 ∷ []) s i)) ∙ h in
     let k = items_back p.1 q.1 a (token.Name p.0 ∷ r) (token.Name q.0 ∷ s) refl refl h1 in
     let n : bytes_eq p.0 q.0 ≡ true = sym (name_alike p.0 q.0) ∙ first (alike (token.Name p.0) (token.Name q.0)) (alike_keys r s) k.1 in
     (both n k.0, second (alike (token.Name p.0) (token.Name q.0)) (alike_keys r s) k.1)
@@ -161,18 +161,18 @@ module _ (ps : List (Part Value)) (a : AllByRecursion TellsPart ps) (qs : List (
   ordered_alike h =
       sym (alike_tests (keys_of ps) (keys_of qs))
       ∙ same_lists key_cmp keys_total (keys_of ps) (keys_of qs) (ascends key_cmp keys_total [] (map part_key ps) tt) (ascends key_cmp keys_total [] (map part_key qs) tt)
-        (λ k i.
-          let p = at (IsPart ps) (keys_of ps) k (from_parts ps) i in
-          let q = h.among p.0 p.1 in
-          let l = has key_cmp keys_total [] (map part_key qs) (part_key q.0) (in_map qs q.0 q.1) in
-          let e : key_cmp (part_key p.0) (part_key q.0) ≡ Equal = equal_told _ (keys_compared (part_key p.0) (part_key q.0) ∙ part_forth p.0 q.0 (at TellsPart ps p.0 a p.1) q.2) in
-          (l.0, l.1, subst (λ z. key_cmp z l.0 ≡ Equal) p.2 (keys_total.congr (part_key p.0) (part_key q.0) l.0 e ∙ l.2)))
-        (λ k i.
-          let q = at (IsPart qs) (keys_of qs) k (from_parts qs) i in
-          let p = h.back q.0 q.1 in
-          let l = has key_cmp keys_total [] (map part_key ps) (part_key p.0) (in_map ps p.0 p.1) in
-          let e : key_cmp (part_key p.0) (part_key q.0) ≡ Equal = equal_told _ (keys_compared (part_key p.0) (part_key q.0) ∙ part_forth p.0 q.0 (at TellsPart ps p.0 a p.1) p.2) in
-          (l.0, l.1, subst (λ z. key_cmp l.0 z ≡ Equal) q.2 (sym (keys_total.congr (part_key p.0) l.0 (part_key q.0) l.2) ∙ e)))
+      (λ k i.
+      let p = at (IsPart ps) (keys_of ps) k (from_parts ps) i in
+      let q = h.among p.0 p.1 in
+      let l = has key_cmp keys_total [] (map part_key qs) (part_key q.0) (in_map qs q.0 q.1) in
+      let e : key_cmp (part_key p.0) (part_key q.0) ≡ Equal = equal_told _ (keys_compared (part_key p.0) (part_key q.0) ∙ part_forth p.0 q.0 (at TellsPart ps p.0 a p.1) q.2) in
+      (l.0, l.1, subst (λ z. key_cmp z l.0 ≡ Equal) p.2 (keys_total.congr (part_key p.0) (part_key q.0) l.0 e ∙ l.2)))
+      (λ k i.
+      let q = at (IsPart qs) (keys_of qs) k (from_parts qs) i in
+      let p = h.back q.0 q.1 in
+      let l = has key_cmp keys_total [] (map part_key ps) (part_key p.0) (in_map ps p.0 p.1) in
+      let e : key_cmp (part_key p.0) (part_key q.0) ≡ Equal = equal_told _ (keys_compared (part_key p.0) (part_key q.0) ∙ part_forth p.0 q.0 (at TellsPart ps p.0 a p.1) p.2) in
+      (l.0, l.1, subst (λ z. key_cmp l.0 z ≡ Equal) q.2 (sym (keys_total.congr (part_key p.0) l.0 (part_key q.0) l.2) ∙ e)))
 
   parts_forth : mutual_inclusion (same_part same) ps qs ≡ true → alike_keys (parts_key ps) (parts_key qs) ≡ true
   parts_forth h =
@@ -188,17 +188,17 @@ module _ (ps : List (Part Value)) (a : AllByRecursion TellsPart ps) (qs : List (
       let g : pointwise (eq_by_cmp key_cmp) (keys_of ps) (keys_of qs) ≡ true = alike_tests (keys_of ps) (keys_of qs) ∙ h in
       record {
         among = λ p i.
-          let k = has key_cmp keys_total [] (map part_key ps) (part_key p) (in_map ps p i) in
-          let l = like_among key_cmp (keys_of ps) (keys_of qs) g k.0 k.1 in
-          let q = at (IsPart qs) (keys_of qs) l.0 (from_parts qs) l.1 in
-          let e : key_cmp (part_key p) l.0 ≡ Equal = keys_total.congr (part_key p) k.0 l.0 k.2 ∙ equal_told _ l.2 in
-          (q.0, q.1, alike_parts p q.0 i (subst (λ z. alike_keys (part_key p) z ≡ true) (sym q.2) (sym (keys_compared (part_key p) l.0) ∙ ap is_eq e)));
+            let k = has key_cmp keys_total [] (map part_key ps) (part_key p) (in_map ps p i) in
+            let l = like_among key_cmp (keys_of ps) (keys_of qs) g k.0 k.1 in
+            let q = at (IsPart qs) (keys_of qs) l.0 (from_parts qs) l.1 in
+            let e : key_cmp (part_key p) l.0 ≡ Equal = keys_total.congr (part_key p) k.0 l.0 k.2 ∙ equal_told _ l.2 in
+            (q.0, q.1, alike_parts p q.0 i (subst (λ z. alike_keys (part_key p) z ≡ true) (sym q.2) (sym (keys_compared (part_key p) l.0) ∙ ap is_eq e)));
         back = λ q i.
-          let l = has key_cmp keys_total [] (map part_key qs) (part_key q) (in_map qs q i) in
-          let k = like_back key_cmp (keys_of ps) (keys_of qs) g l.0 l.1 in
-          let p = at (IsPart ps) (keys_of ps) k.0 (from_parts ps) k.1 in
-          let e : key_cmp k.0 (part_key q) ≡ Equal = alike_right keys_total (part_key q) l.0 k.0 l.2 ∙ equal_told _ k.2 in
-          (p.0, p.1, alike_parts p.0 q p.1 (subst (λ z. alike_keys z (part_key q) ≡ true) (sym p.2) (sym (keys_compared k.0 (part_key q)) ∙ ap is_eq e)))
+            let l = has key_cmp keys_total [] (map part_key qs) (part_key q) (in_map qs q i) in
+            let k = like_back key_cmp (keys_of ps) (keys_of qs) g l.0 l.1 in
+            let p = at (IsPart ps) (keys_of ps) k.0 (from_parts ps) k.1 in
+            let e : key_cmp k.0 (part_key q) ≡ Equal = alike_right keys_total (part_key q) l.0 k.0 l.2 ∙ equal_told _ k.2 in
+            (p.0, p.1, alike_parts p.0 q p.1 (subst (λ z. alike_keys z (part_key q) ≡ true) (sym p.2) (sym (keys_compared k.0 (part_key q)) ∙ ap is_eq e)));
       }
 
   cut_parts : (k : Key) → IsPart ps k → (l : Key) → IsKey l → (r s : Key) → alike_keys (k ++ r) (l ++ s) ≡ true → (alike_keys k l ≡ true) × (alike_keys r s ≡ true)
@@ -212,11 +212,11 @@ module _ (ps : List (Part Value)) (a : AllByRecursion TellsPart ps) (qs : List (
   parts_back : (r s : Key) → alike_keys (parts_key ps ++ r) (parts_key qs ++ s) ≡ true → (mutual_inclusion (same_part same) ps qs ≡ true) × (alike_keys r s ≡ true)
   parts_back r s h =
       let g : alike_keys (joined (map (λ k. k) (keys_of ps)) ++ token.End ∷ r) (joined (map (λ k. k) (keys_of qs)) ++ token.End ∷ s) ≡ true
-          = sym (λ i. alike_keys (behind (keys_of ps) r i) (behind (keys_of qs) s i))
-            ∙ second (alike token.Open token.Open) (alike_keys ((joined (keys_of ps) ++ token.End ∷ []) ++ r) ((joined (keys_of qs) ++ token.End ∷ []) ++ s)) h in
+      = sym (λ i. alike_keys (behind (keys_of ps) r i) (behind (keys_of qs) s i))
+      ∙ second (alike token.Open token.Open) (alike_keys ((joined (keys_of ps) ++ token.End ∷ []) ++ r) ((joined (keys_of qs) ++ token.End ∷ []) ++ s)) h in
       let c = cut_list (λ k. k) alike_keys IsKey starts_part key_of_part_begins (keys_of ps) (keys_of qs)
-          (each_so (IsPart ps) (λ k p. (p.0, p.2)) (keys_of ps) (from_parts ps)) (each_so (IsPart ps) cut_parts (keys_of ps) (from_parts ps))
-          (each_so (IsPart qs) (λ k p. (p.0, p.2)) (keys_of qs) (from_parts qs)) (token.End ∷ r) (token.End ∷ s) refl refl g in
+      (each_so (IsPart ps) (λ k p. (p.0, p.2)) (keys_of ps) (from_parts ps)) (each_so (IsPart ps) cut_parts (keys_of ps) (from_parts ps))
+      (each_so (IsPart qs) (λ k p. (p.0, p.2)) (keys_of qs) (from_parts qs)) (token.End ∷ r) (token.End ∷ s) refl refl g in
       (tell (same_part same) ps qs (included c.0), second (alike token.End token.End) (alike_keys r s) c.1)
 
 -- the sets of a level
@@ -319,15 +319,17 @@ module _ (x : Value-F Value) (a : AllWithin Tells (shape x)) (y : Value-F Value)
       let g : alike_keys (own x ∷ (rest_key (shape x) ++ r)) (own y ∷ (rest_key (shape y) ++ s)) ≡ true = sym (λ i. alike_keys (key_level x i ++ r) (key_level y i ++ s)) ∙ h in
       let o : alike (own x) (own y) ≡ true = first (alike (own x) (own y)) (alike_keys (rest_key (shape x) ++ r) (rest_key (shape y) ++ s)) g in
       let k = rests_back (is_leaf x) (is_leaf y) (shape x) (shape y) (leaves_alike x y o) a (leaves_inside x y) r s
-          (second (alike (own x) (own y)) (alike_keys (rest_key (shape x) ++ r) (rest_key (shape y) ++ s)) g) in
+      (second (alike (own x) (own y)) (alike_keys (rest_key (shape x) ++ r) (rest_key (shape y) ++ s)) g) in
       (same_by_shapes x y ∙ both (sym (own_told x y) ∙ o) k.0, k.1)
 
 rolled : (P : Value → Type 0) → ((x : Value-F Value) → P (roll-Value x)) → (v : Value) → P v
 rolled P f = by_shapes P (λ x _. f x)
 
 tells : (v : Value) → Tells v
-tells = by_shapes Tells (λ x a. (rolled (λ w. same (roll-Value x) w ≡ true → alike_keys (key (roll-Value x)) (key w) ≡ true) (level_forth x a),
-    rolled (λ w. (r s : Key) → alike_keys (key (roll-Value x) ++ r) (key w ++ s) ≡ true → (same (roll-Value x) w ≡ true) × (alike_keys r s ≡ true)) (level_back x a)))
+tells = by_shapes Tells (λ x a. (
+  rolled (λ w. same (roll-Value x) w ≡ true → alike_keys (key (roll-Value x)) (key w) ≡ true) (level_forth x a),
+  rolled (λ w. (r s : Key) → alike_keys (key (roll-Value x) ++ r) (key w ++ s) ≡ true → (same (roll-Value x) w ≡ true) × (alike_keys r s ≡ true)) (level_back x a),
+))
 
 pub keys_tell : (v w : Value) → is_eq (key_cmp (key v) (key w)) ≡ same v w
 keys_tell v w =

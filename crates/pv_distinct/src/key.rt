@@ -20,14 +20,15 @@ impl Model for Key {
 }
 
 impl Key {
-    ghost use Rattle.std.specs.Prelude.{◌≡◌, [], ◌∷◌, ◌++◌, OnOk};
+    ghost use Rattle.std.specs.Prelude.{◌≡◌, [], ◌∷◌, ◌++◌, IfOk, OnOk};
 
-    pub fn new(alloc: Global) -> Key
-        ensures { result ≡ [] }
+    /// An empty key with room for that many tokens.
+    pub fn new(alloc: Global, capacity: usize) -> Result<Key, Memory>
+        ensures { IfOk result (λ k. k ≡ []) }
     {
-        Key {
-            tokens: Vec::new(alloc),
-        }
+        Ok(Key {
+            tokens: Vec::with_capacity(alloc, capacity)?,
+        })
     }
 
     pub fn push(&mut self, token: Token) -> Result<(), Memory>

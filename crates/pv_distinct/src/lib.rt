@@ -5,6 +5,8 @@ mod key;
 mod laws;
 mod making;
 mod seen;
+#[cfg(test)]
+mod tests;
 mod token;
 
 pub use laws::keys_tell_values;

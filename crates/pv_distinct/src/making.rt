@@ -46,7 +46,7 @@ fn write_set(alloc: Global, values: &[Value], out: &mut Key) -> Result<(), Memor
     let name = Text::from_str(alloc, "")?;
     let mut keys = BTreeSet::new(alloc);
     for value in values {
-        let mut item = Key::new(alloc);
+        let mut item = Key::new(alloc, 2)?;
         write_key(alloc, value, &mut item)?;
         item.push(Token::Name(name.share(alloc)?))?;
         keys.insert(item)?;
@@ -62,7 +62,7 @@ fn write_entries(alloc: Global, entries: &[(Value, Value)], out: &mut Key) -> Re
     let name = Text::from_str(alloc, "")?;
     let mut keys = BTreeSet::new(alloc);
     for (first, second) in entries {
-        let mut item = Key::new(alloc);
+        let mut item = Key::new(alloc, 2)?;
         write_key(alloc, first, &mut item)?;
         write_key(alloc, second, &mut item)?;
         item.push(Token::Name(name.share(alloc)?))?;
@@ -78,7 +78,7 @@ fn write_fields(alloc: Global, fields: &[(Text, Value)], out: &mut Key) -> Resul
 {
     let mut keys = BTreeSet::new(alloc);
     for (name, value) in fields {
-        let mut item = Key::new(alloc);
+        let mut item = Key::new(alloc, 2)?;
         write_key(alloc, value, &mut item)?;
         item.push(Token::Name(name.share(alloc)?))?;
         keys.insert(item)?;
@@ -133,7 +133,10 @@ fn write_key(alloc: Global, value: &Value, out: &mut Key) -> Result<(), Memory>
             out.push(Token::End)?;
         }
         Value::Model {
-            cls, fields, extra, ..
+            cls,
+            fields,
+            extra,
+            ..
         } => {
             out.push(Token::Model(cls.share(alloc)?))?;
             write_fields(alloc, fields.as_slice(), out)?;
@@ -149,10 +152,11 @@ fn write_key(alloc: Global, value: &Value, out: &mut Key) -> Result<(), Memory>
     Ok(())
 }
 
+/// Nearly all values are one token.
 pub fn make_key(alloc: Global, value: &Value) -> Result<Key, Memory>
     ensures { IfOk result (λ k. k ≡ key value.now) }
 {
-    let mut out = Key::new(alloc);
+    let mut out = Key::new(alloc, 1)?;
     write_key(alloc, value, &mut out)?;
     Ok(out)
 }
