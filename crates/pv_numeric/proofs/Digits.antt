@@ -27,7 +27,7 @@ all parts = list_all is_some_digits parts
 abbrev split : List ℕ → List (List ℕ)
 split ds = slice_split is_underscore ds
 
-apart : (b : ℕ) → is_digit b ≡ true → is_underscore b ≡ true → ⊥
+pub apart : (b : ℕ) → is_digit b ≡ true → is_underscore b ≡ true → ⊥
 apart b e f =
     let low = leb-true b 57 (and_parts (nat_le 48 b) (nat_le b 57) e).1 in
     elim (eqb_tells b 95) [ inl p ↦ (let is = p.1 in omega arith) | inr p ↦ absurd cc ]

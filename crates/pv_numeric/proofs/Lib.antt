@@ -1,3 +1,4 @@
 mod Wholes
 mod Digits
 mod Products
+mod Numerals

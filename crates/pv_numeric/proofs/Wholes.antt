@@ -78,3 +78,9 @@ unfolding whole_of
 whole_of_is_whole lexeme w is =
     let a = number lexeme in
     one_answer a w _ is (answered a (times_ten_to a.significand a.exponent) (λ n e. some_product a.significand a.exponent n e) (λ e n has. no_product a.significand a.exponent e n has))
+
+pub whole_of_answers : (lexeme : List ℕ) → IsWhole (number lexeme) (whole_of lexeme)
+unfolding whole_of
+whole_of_answers lexeme =
+    let a = number lexeme in
+    answered a (times_ten_to a.significand a.exponent) (λ n e. some_product a.significand a.exponent n e) (λ e n has. no_product a.significand a.exponent e n has)

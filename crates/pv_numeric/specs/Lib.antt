@@ -1,3 +1,4 @@
 pub mod WholeNumbers
 pub mod NumericStrings
 pub mod Multiples
+pub mod Numerals

@@ -12,6 +12,8 @@ mod listing;
 mod literals;
 mod places;
 mod schemes;
+#[cfg(test)]
+mod tests;
 mod texts;
 mod validation;
 
