@@ -1,2 +1,3 @@
-//! Lists, tuples, sets and dicts of what validation gave for their parts.
 #![tactic(auto)]
+mod gather;
+pub use gather::{Gather, type_error};

@@ -6,5 +6,7 @@ mod level;
 mod one_error;
 mod positions;
 mod rules;
+mod validating;
 
 pub use laws::means_the_same;
+pub use validating::validate;

@@ -1,0 +1,26 @@
+ghost use Rattle.std.specs.Prelude.{◌≡◌, IfOk};
+ghost use Rattle.pv_engine.specs.Meaning.{full_depth, meaning};
+
+use crate::level::validate_at;
+use pv_fault::Outcome;
+use pv_plan::Plan;
+use pv_text::Memory;
+use pv_tree::Tree;
+use std::alloc::Global;
+
+/// At most so many nodes are entered below one another.
+const DEPTH: u64 = 1000;
+
+/// What the plan's schema means for a tree. `strict` is the strictness of the run, where it has one;
+/// it goes before that of the nodes.
+pub fn validate(
+    alloc: Global,
+    plan: &Plan,
+    strict: Option<bool>,
+    t: &Tree,
+) -> Result<Outcome, Memory>
+    ensures { IfOk result (λ o. o ≡ meaning strict full_depth plan.now t.now) }
+{
+    let outcome = validate_at(alloc, plan.as_slice(), strict, DEPTH, plan.root(), t)?;
+    Ok(outcome)
+}
