@@ -52,7 +52,7 @@ module _ {X : Type 0} (t : X → Bool) where
   some_at true i j xs f h = refl
   some_at false i j xs f h = f h
 
-  some_any : (i j : ℕ) (xs : List X) → position_from t i xs ≡ Some j → list_any t xs ≡ true
+  pub some_any : (i j : ℕ) (xs : List X) → position_from t i xs ≡ Some j → list_any t xs ≡ true
   some_any i j [] h = cc
   some_any i j (x ∷ xs) h = some_at (t x) i j xs (some_any (i + 1) j xs) h
 
@@ -61,7 +61,7 @@ module _ {X : Type 0} (t : X → Bool) where
   none_at true i xs f h = cc
   none_at false i xs f h = f h
 
-  none_any : (i : ℕ) (xs : List X) → position_from t i xs ≡ None → list_any t xs ≡ false
+  pub none_any : (i : ℕ) (xs : List X) → position_from t i xs ≡ None → list_any t xs ≡ false
   none_any i [] h = refl
   none_any i (x ∷ xs) h = none_at (t x) i xs (none_any (i + 1) xs) h
 
