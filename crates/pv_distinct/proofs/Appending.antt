@@ -1,5 +1,5 @@
 -- What was appended, part by part.
-use Rattle.std.proofs.Common.{◌≡◌, ℕ, zero, suc, ◌+◌, ◌<◌, List, [], ◌∷◌, ◌++◌, length, map, take, get_or, refl, sym, ap, ◌∙◌, append_assoc, append-nil, add-one, arith}
+use Rattle.std.proofs.Common.{◌≡◌, ℕ, zero, suc, ◌+◌, ◌<◌, List, [], ◌∷◌, ◌++◌, length, map, take, get_or, sym, ap, ◌∙◌, append_assoc, append-nil, add-one, arith}
 use Rattle.pv_tree.specs.declared.Value.{Value}
 use Rattle.pv_tree.specs.declared.Value.TheVariants as value
 use Rattle.pv_tree.specs.declared.Value.TheVariants.{rolls-Dict, rolls-Model, rolls-Root}

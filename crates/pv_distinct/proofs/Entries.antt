@@ -1,12 +1,11 @@
 -- What a place says of the entries and items that are kept.
-use Rattle.std.proofs.Common.{◌≡◌, ℕ, zero, suc, ◌+◌, ◌-◌, ◌<◌, ◌≤◌, Bool, true, false, ◌||◌, cond, List, [], ◌∷◌, ◌++◌, length, map, get_or, refl, sym, ap, ◌∙◌, subst, arith}
+use Rattle.std.proofs.Common.{◌≡◌, ℕ, suc, ◌+◌, ◌<◌, Bool, true, false, cond, List, [], ◌∷◌, ◌++◌, length, map, get_or, refl, ap, ◌∙◌, arith}
 use Rattle.std.specs.Prelude.{Option, None, Some, slice_set}
-use Rattle.std.specs.List.{position_from, list_any}
+use Rattle.std.specs.List.{position_from}
 use Rattle.pv_tree.specs.declared.Value.{Value}
 use Rattle.pv_equality.specs.Equality.{same}
 use Rattle.pv_equality.specs.Merging.{put_item, put_entry}
 use Rattle.pv_distinct.specs.Sightings.{place_at, place_of}
-use Rattle.pv_distinct.specs.declared.seen.Place.{Place}
 use Rattle.pv_distinct.specs.declared.seen.Place.TheVariants as place
 use Rattle.pv_distinct.proofs.Sightings.{some_any, none_any}
 

@@ -1,9 +1,8 @@
 -- The key of a value by the shape of its level.
-use Rattle.std.proofs.Common.{◌≡◌, ◌&&◌, ◌==◌, ℕ, Bool, true, false, List, [], ◌∷◌, ◌++◌, map, refl, sym, ap, ◌∙◌, subst, append_assoc, append-nil, arith}
+use Rattle.std.proofs.Common.{◌≡◌, ◌&&◌, ◌==◌, ℕ, Bool, true, false, List, [], ◌∷◌, ◌++◌, map, refl, sym, ◌∙◌, append-nil}
 use Rattle.std.specs.Prelude.{bytes_eq, if◌then◌else◌, nat_lt, pos}
 use Rattle.std.proofs.Math.Bool.{and-true}
 use Rattle.std.specs.Ordering.{is_eq, nat_cmp}
-use lib.Pointwise.{pointwise}
 use Rattle.pv_number.specs.ExactNumber.{Number, number}
 use Rattle.pv_number.specs.NumberEquality.{int_number}
 use Rattle.pv_tree.specs.declared.Value.{Value, map-Value}
@@ -18,7 +17,7 @@ use Rattle.pv_equality.proofs.Shapes.{Shape, Part, shape, same_own, lone, pair, 
 use Rattle.pv_distinct.specs.declared.token.Token.{Token}
 use Rattle.pv_distinct.specs.declared.token.Token.TheVariants as token
 use Rattle.pv_distinct.specs.Tokens.{token_kind, token_number, token_first, token_second, atom_mark}
-use Rattle.pv_distinct.specs.Keys.{Key, key, key_at, joined, ordered, set_key, item_key, entry_key, field_key}
+use Rattle.pv_distinct.specs.Keys.{Key, key, key_at, joined, set_key, item_key, entry_key, field_key}
 use Rattle.pv_distinct.proofs.Cutting.{alike, token_told}
 
 abbrev pub own : Value-F Value → Token

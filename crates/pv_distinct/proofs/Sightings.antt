@@ -4,7 +4,7 @@ use Rattle.std.specs.Prelude.{Option, None, Some, is_some}
 use Rattle.std.specs.List.{position_from, list_any}
 use Rattle.std.specs.declared.cmp.Ordering.TheVariants.{Equal}
 use Rattle.std.specs.Ordering.{is_eq}
-use Rattle.std.specs.BTreeMap.{BTreeMap, get, btree_map_len, Updates, is_at}
+use Rattle.std.specs.BTreeMap.{get, btree_map_len, Updates}
 use Rattle.std.proofs.lemmas.Cmp.{eq_by_cmp_equiv}
 use Rattle.pv_tree.specs.declared.Value.{Value}
 use Rattle.pv_equality.specs.Equality.{same}
@@ -15,7 +15,6 @@ use Rattle.pv_distinct.specs.Keys.{Key, key, key_cmp}
 use Rattle.pv_distinct.specs.TokenOrder.{keys_total}
 use Rattle.pv_distinct.specs.Sightings.{IsSeen, place_at, place_of}
 use Rattle.pv_distinct.specs.declared.seen.Seen.{Seen}
-use Rattle.pv_distinct.specs.declared.seen.Place.{Place}
 use Rattle.pv_distinct.proofs.Ordering.{equal_told}
 use Rattle.pv_distinct.proofs.Telling.{keys_tell}
 

@@ -1,11 +1,9 @@
 -- Two values are the same exactly where their keys are alike.
-use Rattle.std.proofs.Common.{◌≡◌, ◌&&◌, ◌==◌, ◌⊎◌, inl, inr, ℕ, Bool, true, false, List, [], ◌∷◌, ◌++◌, map, refl, sym, ap, ◌∙◌, subst, append_assoc, append-nil, arith}
-use Rattle.std.specs.Prelude.{bytes_eq, if◌then◌else◌, nat_lt, pos, fold}
+use Rattle.std.proofs.Common.{◌≡◌, ◌&&◌, ◌==◌, inl, inr, ℕ, Bool, true, false, List, [], ◌∷◌, ◌++◌, map, refl, sym, ap, ◌∙◌, subst, append_assoc, append-nil, arith}
+use Rattle.std.specs.Prelude.{bytes_eq, if◌then◌else◌, nat_lt}
 use Rattle.std.specs.List.{AllByRecursion}
-use Rattle.std.specs.BTreeSet.{insert_key}
-use Rattle.std.specs.declared.cmp.Ordering.TheVariants.{Less, Equal, Greater}
+use Rattle.std.specs.declared.cmp.Ordering.TheVariants.{Equal}
 use Rattle.std.specs.Ordering.{is_eq, eq_by_cmp}
-use Rattle.std.specs.Cmp.{IsTotalOrder}
 use Rattle.std.proofs.lemmas.Bool.Decides.{nat_tests}
 use Rattle.std.proofs.lemmas.Cmp.{alike_right}
 use Rattle.std.proofs.Math.Bool.{and-true}
@@ -13,18 +11,16 @@ use lib.Pointwise.{pointwise}
 use Rattle.pv_tree.specs.declared.Value.{Value}
 use Rattle.pv_tree.specs.declared.Value.TheOpen.{Value-F}
 use Rattle.pv_tree.specs.declared.Value.TheViews.{roll-Value}
-use Rattle.pv_equality.specs.Equality.{same, mutual_inclusion, same_number}
-use Rattle.pv_equality.proofs.Numbers.{numbers_equiv}
+use Rattle.pv_equality.specs.Equality.{same, mutual_inclusion}
 use Rattle.pv_equality.proofs.Bools.{both, first, second, same_test}
 use Rattle.pv_equality.proofs.Inclusion.{In, at, each, each_so, Included, told, tell}
 use Rattle.pv_equality.proofs.Shapes.{Shape, Part, shape, same_shape, same_part, same_own, same_inside, AllWithin}
 use Rattle.pv_equality.proofs.Levels.{same_by_shapes, by_shapes}
-use Rattle.pv_distinct.specs.declared.token.Token.{Token}
 use Rattle.pv_distinct.specs.declared.token.Token.TheVariants as token
 use Rattle.pv_distinct.specs.Tokens.{token_kind}
 use Rattle.pv_distinct.specs.TokenOrder.{keys_total}
-use Rattle.pv_distinct.specs.Keys.{Key, key, key_cmp, joined, ordered, set_key}
-use Rattle.pv_distinct.proofs.Ordering.{Ascends, equal_told, all_ordered, ascends, has, same_lists, like_among, like_back}
+use Rattle.pv_distinct.specs.Keys.{Key, key, key_cmp, joined, ordered}
+use Rattle.pv_distinct.proofs.Ordering.{equal_told, all_ordered, ascends, has, same_lists, like_among, like_back}
 use Rattle.pv_distinct.proofs.Cutting.{alike, alike_keys, token_told, keys_compared, kinds_alike, joins, all_join, Begins, Ends, cut_list}
 use Rattle.pv_distinct.proofs.Levels.{none_told, own, own_told, own_kind, key_level, part_key, parts_key, inside_key, rest_key}
 

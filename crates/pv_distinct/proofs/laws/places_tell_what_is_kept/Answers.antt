@@ -7,5 +7,5 @@ returns c = record {
   item_old = item_old;
   entry_new = λ es k v. entry_new k v es;
   entry_old = λ es k v. entry_old k v es;
-  within = λ es k. entry_within k k es
+  within = λ es k. entry_within k k es;
 }
