@@ -1,0 +1,153 @@
+-- What is held of a collection after some of its parts.
+use Rattle.std.specs.Prelude.{ℕ, ◌+◌, Bool, true, false, not, ◌&&◌, if◌then◌else◌, List, [], ◌∷◌, ◌++◌, length, codes, flat_map, Option, None, Some}
+use Rattle.pv_tree.specs.declared.Step.TheVariants.{Name, Index}
+use Rattle.pv_tree.specs.declared.Tree.{Tree}
+use Rattle.pv_tree.specs.declared.Tree.TheOpen.{Tree-F}
+use Rattle.pv_tree.specs.declared.Tree.TheViews.{out-Tree}
+use Rattle.pv_tree.specs.declared.Value.{Value}
+use Rattle.pv_tree.specs.declared.Value.TheVariants as value
+use Rattle.pv_rules.specs.declared.Collection.{Collection}
+use Rattle.pv_rules.specs.declared.Collection.TheVariants as collection
+use Rattle.pv_rules.specs.declared.GatherRule.{GatherRule}
+use Rattle.pv_fault.specs.declared.Grade.{Grade}
+use Rattle.pv_fault.specs.declared.Kind.{Kind}
+use Rattle.pv_fault.specs.declared.LineError.{LineError}
+use Rattle.pv_fault.specs.declared.Outcome.{Outcome}
+use Rattle.pv_fault.specs.declared.Outcome.TheVariants.{Good, Bad}
+use Rattle.pv_fault.specs.Grades.{least, least_of}
+use Rattle.pv_fault.specs.Counts.{sum_of, sum_of_two}
+use Rattle.pv_fault.specs.Under.{all_under}
+use Rattle.pv_equality.specs.Hashable.{hashable}
+use Rattle.pv_equality.specs.Merging.{put_item, put_entry, merged_entries}
+use Rattle.pv_collect.specs.Gathering.{Part, Pair, own_grade, needs_hash, errors_of, item_errors, items_errors, key_errors, pair_errors, outcomes_in, grades_of, counts_of, both_in, kept, made_of, missing_of, wanted, length_fault, measured, unless_errors}
+
+-- errors, grade and count of some parts
+pub record Tallied : Type 0 where
+  pub errors : List LineError
+  pub grade : Grade
+  pub count : Option ℕ
+
+-- A list, tuple, set or frozen set holds values, a dict holds entries.
+pub record Gathered : Type 0 where
+  pub rule : GatherRule
+  pub items : ℕ
+  pub values : List Value
+  pub entries : List (Value × Value)
+  pub tally : Tallied
+
+-- the values of a collection of this kind, from those of lists and those of sets
+abbrev pub held : Collection → List Value → List Value → List Value
+held collection.List vs ws = vs
+held collection.Tuple vs ws = vs
+held collection.Set vs ws = ws
+held collection.Frozen vs ws = ws
+held collection.Dict vs ws = vs
+
+-- whether the parts of a collection are items, and not entries
+abbrev pub is_sequence : Collection → Bool
+is_sequence collection.List = true
+is_sequence collection.Tuple = true
+is_sequence collection.Set = true
+is_sequence collection.Frozen = true
+is_sequence collection.Dict = false
+
+abbrev pub items_at : Tree-F Tree → ℕ
+items_at (Tree-F.Array ts) = length ts
+items_at t = 0
+
+-- how many items an array has, and any other tree none
+abbrev pub items_in : Tree → ℕ
+items_in t = items_at (out-Tree t)
+
+-- the value that an item adds to a collection
+abbrev pub valid_item : Collection → Outcome → Option Value
+valid_item k (Good v g n) = if needs_hash k && not (hashable v) then None else Some v
+valid_item k (Bad es) = None
+
+abbrev pub valid_key : Outcome → Option Value
+valid_key (Good v g n) = if hashable v then Some v else None
+valid_key (Bad es) = None
+
+abbrev pub valid_value : Outcome → Option Value
+valid_value (Good v g n) = Some v
+valid_value (Bad es) = None
+
+abbrev pub valid_entry : Option Value → Option Value → List (Value × Value)
+valid_entry (Some k) (Some v) = (k, v) ∷ []
+valid_entry (Some k) None = []
+valid_entry None v = []
+
+abbrev pub one_or_none : Option Value → List Value
+one_or_none None = []
+one_or_none (Some v) = v ∷ []
+
+abbrev pub valid_items : Collection → List Part → List Value
+valid_items k [] = []
+valid_items k (p ∷ ps) = one_or_none (valid_item k p.outcome) ++ valid_items k ps
+
+abbrev pub valid_entries : List Pair → List (Value × Value)
+valid_entries [] = []
+valid_entries (p ∷ ps) = valid_entry (valid_key p.key) (valid_value p.value) ++ valid_entries ps
+
+-- What is held after these items.
+unfoldable pub gathered_items : GatherRule → List Part → Gathered
+gathered_items r ps = record {
+  rule = r;
+  items = length ps;
+  values = kept r.kind (valid_items r.kind ps);
+  entries = [];
+  tally = record { errors = items_errors r.kind 0 ps; grade = least_of (own_grade r.kind) (grades_of (outcomes_in ps)); count = sum_of (counts_of (outcomes_in ps)) } }
+
+-- What is held after these members of an object.
+unfoldable pub gathered_pairs : GatherRule → List Pair → Gathered
+gathered_pairs r ps = record {
+  rule = r;
+  items = length ps;
+  values = [];
+  entries = merged_entries (valid_entries ps);
+  tally = record { errors = flat_map pair_errors ps; grade = least_of (own_grade r.kind) (grades_of (both_in ps)); count = sum_of (counts_of (both_in ps)) } }
+
+-- a tally with the grade and the count of one more outcome, and with these errors
+abbrev pub tallied : Tallied → Outcome → List LineError → Tallied
+tallied t (Good v g n) es = record { errors = t.errors ++ es; grade = least t.grade g; count = sum_of_two t.count n }
+tallied t (Bad fs) es = record { errors = t.errors ++ es; grade = t.grade; count = t.count }
+
+abbrev pub put_kept : Collection → List Value → Value → List Value
+put_kept collection.List vs v = vs ++ v ∷ []
+put_kept collection.Tuple vs v = vs ++ v ∷ []
+put_kept collection.Set vs v = put_item vs v
+put_kept collection.Frozen vs v = put_item vs v
+put_kept collection.Dict vs v = vs ++ v ∷ []
+
+abbrev pub put_valid : Collection → List Value → Option Value → List Value
+put_valid k vs None = vs
+put_valid k vs (Some v) = put_kept k vs v
+
+abbrev pub put_valid_entry : List (Value × Value) → Option Value → Option Value → List (Value × Value)
+put_valid_entry es (Some k) (Some v) = put_entry es k v
+put_valid_entry es (Some k) None = es
+put_valid_entry es None v = es
+
+unfoldable pub added_item : Gathered → Tree → Outcome → Gathered
+added_item g t o = record {
+  rule = g.rule;
+  items = g.items + 1;
+  values = put_valid g.rule.kind g.values (valid_item g.rule.kind o);
+  entries = g.entries;
+  tally = tallied g.tally o (all_under (Index g.items) (item_errors g.rule.kind t o)) }
+
+-- of a key, and of the value at it
+abbrev pub tallied_pair : Tallied → List ℕ → Outcome → Outcome → Tallied
+tallied_pair t name k v =
+    tallied (tallied t k (all_under (Name name) (all_under (Name (codes "[key]")) (key_errors name k)))) v (all_under (Name name) (errors_of v))
+
+unfoldable pub added_pair : Gathered → List ℕ → Outcome → Outcome → Gathered
+added_pair g name k v = record {
+  rule = g.rule;
+  items = g.items + 1;
+  values = g.values;
+  entries = put_valid_entry g.entries (valid_key k) (valid_value v);
+  tally = tallied_pair g.tally name k v }
+
+abbrev pub whole : Tallied → List LineError → Option Kind → Tree → Value → Outcome
+whole t es fault input v = unless_errors (t.errors ++ es) (measured fault input (Good v t.grade t.count))
