@@ -1,0 +1,57 @@
+-- The key of a value: the tokens by which it is found. Two values are the same where their keys compare equal.
+use Rattle.std.specs.Prelude.{ℕ, pos, if◌then◌else◌, List, [], ◌∷◌, ◌++◌, map, fold}
+use Rattle.std.specs.declared.cmp.Ordering.{Ordering}
+use Rattle.std.specs.Cmp.Lexicographic.{slice_cmp}
+use Rattle.std.specs.BTreeSet.{insert_key}
+use Rattle.pv_tree.specs.declared.Value.{Value, fold-Value}
+use Rattle.pv_tree.specs.declared.Value.TheOpen.{Value-F}
+use Rattle.pv_distinct.specs.declared.token.Token.{Token}
+use Rattle.pv_distinct.specs.declared.token.Token.TheVariants as token
+use Rattle.pv_distinct.specs.Tokens.{token_cmp}
+
+abbrev pub Key : Type 0
+Key = List Token
+
+abbrev pub key_cmp : Key → Key → Ordering
+key_cmp = slice_cmp token_cmp
+
+abbrev pub joined : List Key → Key
+joined [] = []
+joined (k ∷ ks) = k ++ joined ks
+
+-- the keys in their order, of equal ones the first
+abbrev pub ordered : List Key → List Key
+ordered ks = fold (insert_key key_cmp) [] ks
+
+-- an item, an entry or a field, behind which its name stands
+abbrev pub item_key : Key → Key
+item_key k = k ++ token.Name [] ∷ []
+
+abbrev pub entry_key : Key × Key → Key
+entry_key e = (e.0 ++ e.1) ++ token.Name [] ∷ []
+
+abbrev pub field_key : List ℕ × Key → Key
+field_key f = f.1 ++ token.Name f.0 ∷ []
+
+abbrev pub set_key : List Key → Key
+set_key ks = token.Open ∷ (joined (ordered ks) ++ token.End ∷ [])
+
+abbrev pub key_at : Value-F Key → Key
+key_at Value-F.None = token.None ∷ []
+key_at (Value-F.Bool b) = token.Int (pos (if b then 1 else 0)) ∷ []
+key_at (Value-F.Int n) = token.Int n ∷ []
+key_at (Value-F.Lexeme lexeme) = token.Lexeme lexeme ∷ []
+key_at (Value-F.Str text) = token.Str text ∷ []
+key_at (Value-F.Bytes bytes) = token.Bytes bytes ∷ []
+key_at (Value-F.Atom kind text) = token.Atom kind text ∷ []
+key_at (Value-F.Enum cls name k) = token.Enum cls name ∷ (k ++ token.End ∷ [])
+key_at (Value-F.List ks) = token.List ∷ (joined ks ++ token.End ∷ [])
+key_at (Value-F.Tuple ks) = token.Tuple ∷ (joined ks ++ token.End ∷ [])
+key_at (Value-F.Set ks) = token.Set ∷ (set_key (map item_key ks) ++ token.End ∷ [])
+key_at (Value-F.Frozen ks) = token.Set ∷ (set_key (map item_key ks) ++ token.End ∷ [])
+key_at (Value-F.Dict es) = token.Dict ∷ (set_key (map entry_key es) ++ token.End ∷ [])
+key_at (Value-F.Model cls fs set es) = token.Model cls ∷ ((set_key (map field_key fs) ++ set_key (map field_key es)) ++ token.End ∷ [])
+key_at (Value-F.Root cls k) = token.Root cls ∷ (k ++ token.End ∷ [])
+
+abbrev pub key : Value → Key
+key = fold-Value Key key_at

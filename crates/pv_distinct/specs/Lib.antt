@@ -1,0 +1,4 @@
+pub mod Tokens
+pub mod Keys
+pub mod TokenOrder
+pub mod Sightings

@@ -1,0 +1,13 @@
+//! An index of values that finds an equal value among those that came before.
+#![tactic(auto)]
+
+mod key;
+mod laws;
+mod making;
+mod seen;
+#[cfg(test)]
+mod tests;
+mod token;
+
+pub use laws::keys_tell_values;
+pub use seen::{Place, Seen};
