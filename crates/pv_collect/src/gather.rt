@@ -1,6 +1,6 @@
 //! The parts of a collection, one after the other.
 
-ghost use Rattle.std.specs.Prelude.{◌≡◌, [], ◌∷◌, ◌++◌, List, IfOk, OnOk};
+ghost use Rattle.std.specs.Prelude.{◌≡◌, [], ◌∷◌, ◌++◌, List, IfOk};
 ghost use Rattle.pv_rules.specs.declared.GatherRule.{GatherRule};
 ghost use Rattle.pv_collect.specs.Gathering.{Part, Pair};
 ghost use Rattle.pv_collect.specs.Gathering as gathering;
@@ -71,13 +71,15 @@ impl Gather {
     }
 
     /// Adds a value to those of the collection, where sets keep the first of equal ones.
-    fn keep(&mut self, value: Value) -> Result<(), Memory>
-        ensures { OnOk result (self.new ≡ record self.old { values = state.put_kept self.old.rule.kind self.old.values value }) }
+    fn keep(self, value: Value) -> Result<Gather, Memory>
+        ensures { IfOk result (λ g. g ≡ record self { values = state.put_kept self.rule.kind self.values value }) }
     {
-        match self.rule.kind {
-            Collection::Set | Collection::Frozen => self.distinct.put(value),
-            Collection::List | Collection::Tuple | Collection::Dict => Ok(self.values.push(value)?),
+        let mut gather = self;
+        match gather.rule.kind {
+            Collection::Set | Collection::Frozen => gather.distinct = gather.distinct.put(gather.alloc, value)?,
+            Collection::List | Collection::Tuple | Collection::Dict => gather.values.push(value)?,
         }
+        Ok(gather)
     }
 
     fn add_item(self, outcome: Outcome, input: &Tree) -> Result<Gather, Memory>
@@ -88,10 +90,10 @@ impl Gather {
         let next = gather.items.checked_add(1).ok_or(Memory)?;
         let value = gather.tally.item(gather.alloc, kind, gather.items, outcome, input)?;
         gather.items = next;
-        if let Some(value) = value {
-            gather.keep(value)?;
+        match value {
+            Some(value) => gather.keep(value),
+            None => Ok(gather),
         }
-        Ok(gather)
     }
 
     /// Adds the outcome of the next item.
@@ -110,7 +112,7 @@ impl Gather {
         gather.items = next;
         if let Some(key) = key {
             if let Some(value) = value {
-                gather.entries.put(key, value)?;
+                gather.entries = gather.entries.put(gather.alloc, key, value)?;
             }
         }
         Ok(gather)

@@ -1,31 +1,19 @@
 //! What sets keep of equal items, and dicts of equal keys.
 
-ghost use Rattle.std.specs.Prelude.{◌≡◌, [], OnOk};
-ghost use Rattle.std.specs.List.{list_any};
-ghost use Rattle.pv_equality.specs.Equality as equality;
+ghost use Rattle.std.specs.Prelude.{◌≡◌, [], IfOk};
 ghost use Rattle.pv_equality.specs.Merging as spec;
 
-use pv_equality::same;
+use pv_distinct::{Place, Seen};
 use pv_text::Memory;
 use pv_tree::{Entries, Value, Values};
 use std::alloc::Global;
 use std::marker::Model;
 
-fn contains(values: &[Value], value: &Value) -> bool
-    ensures { result ≡ list_any (λ v. equality.same v value.now) values.now }
-{
-    for other in values {
-        if same(other, value) {
-            return true;
-        }
-    }
-    false
-}
-
 /// Values no two of which are the same.
 #[derive(Drop)]
 pub(crate) struct Distinct {
     values: Values,
+    seen: Seen,
 }
 
 impl Model for Distinct {
@@ -33,12 +21,15 @@ impl Model for Distinct {
     ghost use Rattle.pv_tree.specs.declared.Value as tree_value;
     ghost use Rattle.pv_tree.specs.contracts.Value as value;
     ghost use Rattle.std.specs.Coded.{codes};
+    ghost use Rattle.pv_distinct.specs.Sightings.{IsSeen};
 
     ghost Value = { List tree_value.Value };
 
     ghost coded = { Prim.hlevel (codes, value.the_row.coded) };
 
     ghost view = { λ d. d.values };
+
+    ghost invariant = { λ d. IsSeen d.seen d.values };
 }
 
 impl Distinct {
@@ -47,24 +38,28 @@ impl Distinct {
     {
         Distinct {
             values: Values::new(alloc),
+            seen: Seen::new(alloc),
         }
     }
 
     /// Adds a value, unless one that is there is the same.
-    pub(crate) fn put(&mut self, value: Value) -> Result<(), Memory>
-        ensures { OnOk result (self.new ≡ spec.put_item self.old value) }
+    pub(crate) fn put(self, alloc: Global, value: Value) -> Result<Distinct, Memory>
+        ensures { IfOk result (λ d. d ≡ spec.put_item self value) }
     {
-        if contains(self.values.as_slice(), &value) {
-            return Ok(());
+        let Distinct { mut values, mut seen } = self;
+        match seen.place(alloc, &value)? {
+            Place::Old(_) => Ok(Distinct { values, seen }),
+            Place::New => {
+                values.push(value)?;
+                Ok(Distinct { values, seen })
+            }
         }
-        self.values.push(value)?;
-        Ok(())
     }
 
     pub(crate) fn into_values(self) -> Values
         ensures { result ≡ self }
     {
-        let Distinct { values } = self;
+        let Distinct { values, seen: _ } = self;
         values
     }
 }
@@ -73,6 +68,7 @@ impl Distinct {
 #[derive(Drop)]
 pub(crate) struct Merged {
     entries: Vec<(Value, Value)>,
+    seen: Seen,
 }
 
 impl Model for Merged {
@@ -80,12 +76,16 @@ impl Model for Merged {
     ghost use Rattle.pv_tree.specs.declared.Value as tree_value;
     ghost use Rattle.pv_tree.specs.contracts.Value as value;
     ghost use Rattle.std.specs.Coded.{codes};
+    ghost use Rattle.pv_distinct.specs.Sightings.{IsSeen};
+    ghost use Rattle.pv_collect.specs.State.{keys_of};
 
     ghost Value = { List (tree_value.Value × tree_value.Value) };
 
     ghost coded = { Prim.hlevel (codes, value.the_row.coded) };
 
     ghost view = { λ m. m.entries.items };
+
+    ghost invariant = { λ m. IsSeen m.seen (keys_of m.entries.items) };
 }
 
 impl Merged {
@@ -94,27 +94,31 @@ impl Merged {
     {
         Merged {
             entries: Vec::new(alloc),
+            seen: Seen::new(alloc),
         }
     }
 
     /// Adds an entry; where a key that is there is the same, it keeps its place and takes the value.
-    pub(crate) fn put(&mut self, key: Value, value: Value) -> Result<(), Memory>
-        ensures { OnOk result (self.new ≡ spec.put_entry self.old key value) }
+    pub(crate) fn put(self, alloc: Global, key: Value, value: Value) -> Result<Merged, Memory>
+        ensures { IfOk result (λ m. m ≡ spec.put_entry self key value) }
     {
-        for place in 0..self.entries.len() {
-            if same(&self.entries[place].0, &key) {
-                self.entries[place].1 = value;
-                return Ok(());
+        let Merged { mut entries, mut seen } = self;
+        match seen.place(alloc, &key)? {
+            Place::Old(place) => {
+                entries[place].1 = value;
+                Ok(Merged { entries, seen })
+            }
+            Place::New => {
+                entries.push((key, value))?;
+                Ok(Merged { entries, seen })
             }
         }
-        self.entries.push((key, value))?;
-        Ok(())
     }
 
     pub(crate) fn into_entries(self) -> Entries
         ensures { result ≡ self }
     {
-        let Merged { entries } = self;
+        let Merged { entries, seen: _ } = self;
         Entries::from_vec(entries)
     }
 }
