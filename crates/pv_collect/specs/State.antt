@@ -1,5 +1,5 @@
 -- What is held of a collection after some of its parts.
-use Rattle.std.specs.Prelude.{ℕ, ◌+◌, Bool, true, false, not, ◌&&◌, if◌then◌else◌, List, [], ◌∷◌, ◌++◌, length, codes, flat_map, Option, None, Some}
+use Rattle.std.specs.Prelude.{ℕ, ◌+◌, Bool, true, false, not, ◌&&◌, if◌then◌else◌, List, [], ◌∷◌, ◌++◌, length, map, codes, flat_map, Option, None, Some}
 use Rattle.pv_tree.specs.declared.Step.TheVariants.{Name, Index}
 use Rattle.pv_tree.specs.declared.Tree.{Tree}
 use Rattle.pv_tree.specs.declared.Tree.TheOpen.{Tree-F}
@@ -34,6 +34,17 @@ pub record Gathered : Type 0 where
   pub values : List Value
   pub entries : List (Value × Value)
   pub tally : Tallied
+
+abbrev pub keys_of : List (Value × Value) → List Value
+keys_of = map (λ e. e.0)
+
+-- the values of a collection of this kind, from those of lists and those of sets
+abbrev pub held : Collection → List Value → List Value → List Value
+held collection.List vs ws = vs
+held collection.Tuple vs ws = vs
+held collection.Set vs ws = ws
+held collection.Frozen vs ws = ws
+held collection.Dict vs ws = vs
 
 -- whether the parts of a collection are items, and not entries
 abbrev pub is_sequence : Collection → Bool
