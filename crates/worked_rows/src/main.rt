@@ -13,7 +13,23 @@ use std::io;
 /// How many bytes an answer may have.
 const ROOM: usize = 100_000;
 
-fn words_of(alloc: Global, all: &str) -> Result<Words, Memory> {
+/// A row for which there is no memory.
+#[derive(Drop)]
+struct NoRow;
+
+impl From<Memory> for NoRow {
+    fn from(_e: Memory) -> NoRow {
+        NoRow
+    }
+}
+
+impl From<PutFault> for NoRow {
+    fn from(_e: PutFault) -> NoRow {
+        NoRow
+    }
+}
+
+fn words_of(alloc: Global, all: &str) -> Result<Words, NoRow> {
     let mut words = Words::new(alloc);
     for word in all.split(' ') {
         words.push(word)?;
@@ -22,7 +38,7 @@ fn words_of(alloc: Global, all: &str) -> Result<Words, Memory> {
 }
 
 /// A shelf with the files `S` and `D`.
-fn shelf_of(alloc: Global, schema: &str, document: &str) -> Result<MemShelf, PutFault>
+fn shelf_of(alloc: Global, schema: &str, document: &str) -> Result<MemShelf, NoRow>
     ensures given { IfOk result (λ shelf. shelf.given ≡ 0) }
     ensures faults { IfOk result (λ shelf. shelf.faults ≡ 0) }
 {
@@ -38,10 +54,10 @@ fn shelf_of(alloc: Global, schema: &str, document: &str) -> Result<MemShelf, Put
     Ok(shelf)
 }
 
-fn sink_of(alloc: Global) -> Result<MemSink, Memory>
+fn sink_of(alloc: Global) -> Result<MemSink, NoRow>
     ensures { IfOk result (λ sink. sink.faults ≡ 0) }
 {
-    MemSink::new(alloc, 4096, ROOM)
+    Ok(MemSink::new(alloc, 4096, ROOM)?)
 }
 
 /// The text of bytes that are one, and none where they are not.
@@ -52,25 +68,33 @@ fn shown(bytes: &[u8]) -> &str {
     }
 }
 
-/// The status, and what stands on the two streams.
-fn print_row(rt: &HostRuntime, words: &str, schema: &str, document: &str) -> io::Result<()> {
-    let alloc = rt.alloc();
-    let Ok(words) = words_of(alloc, words) else {
-        return rt.println("no memory");
-    };
-    let Ok(mut shelf) = shelf_of(alloc, schema, document) else {
-        return rt.println("no shelf");
-    };
-    let Ok(mut out) = sink_of(alloc) else {
-        return rt.println("no memory");
-    };
-    let Ok(mut err) = sink_of(alloc) else {
-        return rt.println("no memory");
-    };
+/// What a run leaves: its status, and what stands on the two streams.
+#[derive(Drop)]
+struct Left {
+    status: u8,
+    out: MemSink,
+    err: MemSink,
+}
+
+fn run_row(alloc: Global, words: &str, schema: &str, document: &str) -> Result<Left, NoRow> {
+    let words = words_of(alloc, words)?;
+    let mut shelf = shelf_of(alloc, schema, document)?;
+    let mut out = sink_of(alloc)?;
+    let mut err = sink_of(alloc)?;
     let status = run(alloc, &words, &mut shelf, &mut out, &mut err).code();
-    let printed = shown(out.taken());
-    let line = shown(err.taken());
-    println!(rt; "{status} {printed}{line}")
+    Ok(Left { status, out, err })
+}
+
+fn print_row(rt: &HostRuntime, words: &str, schema: &str, document: &str) -> io::Result<()> {
+    match run_row(rt.alloc(), words, schema, document) {
+        Ok(left) => {
+            let status = left.status;
+            let printed = shown(left.out.taken());
+            let line = shown(left.err.taken());
+            println!(rt; "{status} {printed}{line}")
+        }
+        Err(NoRow) => println!(rt; "out of memory"),
+    }
 }
 
 fn main(rt: HostRuntime) -> io::Result<()> {
