@@ -21,7 +21,7 @@ use std::marker::Model;
 pub struct Gather {
     pub(crate) alloc: Global,
     pub(crate) rule: GatherRule,
-    items: u64,
+    pub(crate) items: u64,
     /// Of a list or tuple.
     pub(crate) values: Values,
     /// Of a set.
