@@ -120,7 +120,7 @@ as_items collection.List g t h = refl
 as_items collection.Tuple g t h = refl
 as_items collection.Set g t h = refl
 as_items collection.Frozen g t h = refl
-as_items collection.Dict g t h = absurd h
+as_items collection.Dict g t h = cc
 
 pub items_finished : (g : Gathered) (o : Outcome) (t : Tree) → o ≡ finished g t → (r : GatherRule) (ps : List Part) → g ≡ gathered_items r ps → IsTrue (is_sequence r.kind) → o ≡ gather_items r (items_in t) t ps
 unfolding finished gathered_items

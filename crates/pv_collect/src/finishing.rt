@@ -2,7 +2,6 @@
 
 ghost use Rattle.std.specs.Prelude.{◌≡◌, List, IfOk, IsTrue, length};
 ghost use Rattle.pv_rules.specs.declared.GatherRule.{GatherRule};
-ghost use Rattle.pv_rules.specs.declared.Collection.TheVariants as collection;
 ghost use Rattle.pv_collect.specs.Gathering.{Part, Pair, gather_items, gather_pairs};
 ghost use Rattle.pv_collect.specs.Gathering as gathering;
 ghost use Rattle.pv_collect.specs.State.{gathered_items, gathered_pairs, is_sequence};
@@ -139,7 +138,7 @@ impl Gather {
     /// The outcome of the collection that `input` is, from the outcomes of its parts.
     pub fn finish(self, input: &Tree) -> Result<Outcome, Memory>
         ensures items { IfOk result (λ o. (rule : GatherRule) (ps : List Part) → self ≡ gathered_items rule ps → IsTrue (is_sequence rule.kind) → o ≡ gather_items rule (state.items_in input.now) input.now ps) }
-        ensures pairs { IfOk result (λ o. (rule : GatherRule) (ps : List Pair) → self ≡ gathered_pairs rule ps → rule.kind ≡ collection.Dict → o ≡ gather_pairs rule input.now ps) }
+        ensures pairs { IfOk result (λ o. (rule : GatherRule) (ps : List Pair) → self ≡ gathered_pairs rule ps → rule.kind ≡ Collection.Dict → o ≡ gather_pairs rule input.now ps) }
     {
         self.finish_all(input)
     }
