@@ -22,7 +22,7 @@ use Rattle.pv_fault.specs.Under.{under, all_under}
 use Rattle.pv_equality.specs.Hashable.{hashable}
 use Rattle.pv_equality.specs.Merging.{merged_entries}
 use Rattle.pv_collect.specs.Gathering.{Part, Pair, error_here, own_grade, needs_hash, errors_of, item_errors, items_errors, key_errors, pair_errors, outcomes_in, values_of, grades_of, counts_of, both_in, entry_of, entries_of, kept, made_of, missing_of, wanted, length_fault, measured, unless_errors, gather_items, gather_pairs}
-use Rattle.pv_collect.specs.State.{Tallied, Gathered, is_sequence, items_in, valid_item, valid_key, valid_value, valid_entry, one_or_none, valid_items, valid_entries, gathered_items, gathered_pairs, finished_items, finished_pairs, finished_as, finished}
+use Rattle.pv_collect.specs.State.{Tallied, Gathered, is_sequence, items_in, closed, valid_item, valid_key, valid_value, valid_entry, one_or_none, valid_items, valid_entries, gathered_items, gathered_pairs, finished_items, finished_pairs, finished_as, finished}
 
 pub some_errors : (es : List LineError) (o : Outcome) → 0 < length es → unless_errors es o ≡ Bad es
 some_errors [] o h = absurd (omega arith)
@@ -129,3 +129,15 @@ items_finished g o t made r ps held h = made ∙ ap (λ x. finished x t) held �
 pub pairs_finished : (g : Gathered) (o : Outcome) (t : Tree) → o ≡ finished g t → (r : GatherRule) (ps : List Pair) → g ≡ gathered_pairs r ps → r.kind ≡ collection.Dict → o ≡ gather_pairs r t ps
 unfolding finished gathered_pairs
 pairs_finished g o t made r ps held dict = made ∙ ap (λ x. finished x t) held ∙ ap (λ k. finished_as k (gathered_pairs r ps) t) dict ∙ pairs_gathered r t ps dict
+
+pub pairs_closed : (g : Gathered) (r : GatherRule) (es fs : List (Value × Value)) (tally : Tallied) (n : ℕ) (o : Outcome) (t : Tree)
+    → g.rule ≡ r → g.entries ≡ fs → g.tally ≡ tally → es ≡ fs → n ≡ length es → o ≡ closed r t tally (value.Dict es) n n → o ≡ finished_pairs g t
+unfolding finished_pairs
+pairs_closed g r es fs tally n o t rule entries tallied same_list count made =
+    let now : es ≡ g.entries = same_list ∙ sym entries in
+    let size : n ≡ length g.entries = count ∙ ap length now in
+    made
+        ∙ ap (λ x. closed x t tally (value.Dict es) n n) (sym rule)
+        ∙ ap (λ x. closed g.rule t x (value.Dict es) n n) (sym tallied)
+        ∙ ap (λ x. closed g.rule t g.tally (value.Dict x) n n) now
+        ∙ ap (λ x. closed g.rule t g.tally (value.Dict g.entries) x x) size
