@@ -10,7 +10,6 @@ use Rattle.pv_rules.specs.declared.Collection.{Collection}
 use Rattle.pv_rules.specs.declared.Collection.TheVariants as collection
 use Rattle.pv_rules.specs.declared.GatherRule.{GatherRule}
 use Rattle.pv_fault.specs.declared.Grade.{Grade}
-use Rattle.pv_fault.specs.declared.Kind.{Kind}
 use Rattle.pv_fault.specs.declared.LineError.{LineError}
 use Rattle.pv_fault.specs.declared.Outcome.{Outcome}
 use Rattle.pv_fault.specs.declared.Outcome.TheVariants.{Good, Bad}
@@ -152,5 +151,26 @@ added_pair g name k v = record {
   entries = put_valid_entry g.entries (valid_key k) (valid_value v);
   tally = tallied_pair g.tally name k v }
 
-abbrev pub whole : Tallied → List LineError → Option Kind → Tree → Value → Outcome
-whole t es fault input v = unless_errors (t.errors ++ es) (measured fault input (Good v t.grade t.count))
+-- The outcome from what is held: all errors, else what is wrong with the lengths, else the value.
+abbrev pub closed : GatherRule → Tree → Tallied → Value → ℕ → ℕ → Outcome
+closed r t tally v items kept = unless_errors tally.errors (measured (length_fault r items kept) t (Good v tally.grade tally.count))
+
+abbrev pub with_missing : Tallied → List LineError → Tallied
+with_missing t es = record { errors = t.errors ++ es; grade = t.grade; count = t.count }
+
+unfoldable pub finished_items : Gathered → Tree → Outcome
+finished_items g t =
+    closed g.rule t (with_missing g.tally (missing_of (wanted g.rule (items_in t)) (items_in t) t)) (made_of g.rule.kind g.values) (items_in t) (length g.values)
+
+unfoldable pub finished_pairs : Gathered → Tree → Outcome
+finished_pairs g t = closed g.rule t g.tally (value.Dict g.entries) (length g.entries) (length g.entries)
+
+abbrev pub finished_as : Collection → Gathered → Tree → Outcome
+finished_as collection.List g t = finished_items g t
+finished_as collection.Tuple g t = finished_items g t
+finished_as collection.Set g t = finished_items g t
+finished_as collection.Frozen g t = finished_items g t
+finished_as collection.Dict g t = finished_pairs g t
+
+unfoldable pub finished : Gathered → Tree → Outcome
+finished g t = finished_as g.rule.kind g t

@@ -1,6 +1,6 @@
 //! The parts of a collection, one after the other.
 
-ghost use Rattle.std.specs.Prelude.{◌≡◌, [], ◌∷◌, ◌++◌, List, IfOk};
+ghost use Rattle.std.specs.Prelude.{◌≡◌, [], ◌∷◌, ◌++◌, List, IfOk, Some};
 ghost use Rattle.pv_rules.specs.declared.GatherRule.{GatherRule};
 ghost use Rattle.pv_collect.specs.Gathering.{Part, Pair};
 ghost use Rattle.pv_collect.specs.Gathering as gathering;
@@ -21,7 +21,7 @@ use std::marker::Model;
 pub struct Gather {
     pub(crate) alloc: Global,
     pub(crate) rule: GatherRule,
-    items: u64,
+    pub(crate) items: u64,
     /// Of a list or tuple.
     pub(crate) values: Values,
     /// Of a set.
@@ -103,6 +103,20 @@ impl Gather {
         self.add_item(outcome, input)
     }
 
+    /// Adds an entry to those of a dict, if its value is there.
+    fn keep_entry(self, key: Value, value: Option<Value>) -> Result<Gather, Memory>
+        ensures { IfOk result (λ g. g ≡ record self { entries = state.put_valid_entry self.entries (Some key) value }) }
+    {
+        let mut gather = self;
+        match value {
+            Some(value) => {
+                gather.entries = gather.entries.put(gather.alloc, key, value)?;
+                Ok(gather)
+            }
+            None => Ok(gather),
+        }
+    }
+
     fn add_pair(self, name: &Text, key: Outcome, value: Outcome) -> Result<Gather, Memory>
         ensures { IfOk result (λ g. g ≡ added_pair self name.now key value) }
     {
@@ -110,12 +124,10 @@ impl Gather {
         let next = gather.items.checked_add(1).ok_or(Memory)?;
         let (key, value) = gather.tally.pair(gather.alloc, name, key, value)?;
         gather.items = next;
-        if let Some(key) = key {
-            if let Some(value) = value {
-                gather.entries = gather.entries.put(gather.alloc, key, value)?;
-            }
+        match key {
+            Some(key) => gather.keep_entry(key, value),
+            None => Ok(gather),
         }
-        Ok(gather)
     }
 
     /// Adds the outcomes of the next member's key and value.

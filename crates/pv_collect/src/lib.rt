@@ -2,6 +2,7 @@
 #![tactic(auto)]
 
 mod errors;
+mod finishing;
 mod gather;
 mod lengths;
 mod merging;
