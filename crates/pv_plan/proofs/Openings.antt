@@ -7,7 +7,7 @@ use Rattle.pv_node.specs.declared.Body.TheOpen.{Body-F, Node-F}
 use Rattle.pv_node.specs.Preorder.{body_of}
 use Rattle.pv_tree.specs.declared.Step.TheVariants.{Name, Index}
 use Rattle.std.specs.Prelude.{codes}
-use Rattle.pv_plan.specs.BadPatterns.{Path, Search, bad_pattern, search_in, body_step, node_step, in_body, in_positions, in_slot, first_of, behind, rule_is_bad}
+use Rattle.pv_plan.specs.BadPatterns.{Path, Search, bad_pattern, body_step, node_step, in_body, in_positions, first_of, behind, rule_is_bad}
 use Rattle.pv_plan.specs.declared.faults.BuildFault.{BuildFault}
 use Rattle.pv_plan.specs.declared.faults.BuildFault.TheVariants as fault
 use Rattle.pv_plan.specs.Faults.{FailsBy}

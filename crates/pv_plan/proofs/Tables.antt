@@ -1,7 +1,7 @@
 -- Tables grow at their ends.
-use Rattle.std.proofs.Common.{◌≡◌, ℕ, zero, suc, ◌+◌, ◌-◌, ◌<◌, ◌≤◌, Bool, false, List, [], ◌∷◌, ◌++◌, map, length, take, drop, get_or, slice_set, Option, Some, None, refl, ap, sym, ◌∙◌, arith}
+use Rattle.std.proofs.Common.{◌≡◌, ℕ, suc, ◌+◌, ◌-◌, ◌<◌, false, List, [], ◌∷◌, ◌++◌, map, length, take, get_or, slice_set, Option, Some, None, refl, ap, sym, ◌∙◌, arith}
 use Rattle.std.specs.List.{flat_map}
-use Rattle.std.proofs.lemmas.List.{take_more, flat_map_more, length-append, append-nil, append_assoc, set-append_right, map-append}
+use Rattle.std.proofs.lemmas.List.{take_more, flat_map_more, length-append, append-nil, append_assoc, set-append_right}
 use Rattle.std.proofs.lemmas.Grind.{flat_map-append}
 use Rattle.pv_rules.specs.Settings.{plain}
 use Rattle.pv_rules.specs.declared.GatherRule.{GatherRule}
