@@ -4,7 +4,8 @@ use Rattle.std.specs.Prelude.{codes, not, ◌&&◌, if◌then◌else◌, Option,
 use Rattle.std.specs.List.{flat_map}
 use Rattle.pv_tree.specs.declared.Step.{Step}
 use Rattle.pv_tree.specs.declared.Step.TheVariants.{Name, Index}
-use Rattle.pv_tree.specs.declared.Tree.{Tree}
+use Rattle.pv_tree.specs.declared.Tree.{Tree, out-Tree}
+use Rattle.pv_tree.specs.declared.Tree.TheOpen.{Tree-F}
 use Rattle.pv_tree.specs.declared.Tree.TheVariants as tree
 use Rattle.pv_tree.specs.declared.Value.{Value}
 use Rattle.pv_tree.specs.declared.Value.TheVariants as value
@@ -22,7 +23,7 @@ use Rattle.pv_fault.specs.Under.{under, all_under}
 use Rattle.pv_equality.specs.Hashable.{hashable}
 use Rattle.pv_equality.specs.Merging.{merged_entries}
 use Rattle.pv_collect.specs.Gathering.{Part, Pair, error_here, own_grade, needs_hash, errors_of, item_errors, items_errors, key_errors, pair_errors, outcomes_in, values_of, grades_of, counts_of, both_in, entry_of, entries_of, kept, made_of, missing_of, wanted, length_fault, measured, unless_errors, gather_items, gather_pairs}
-use Rattle.pv_collect.specs.State.{Tallied, Gathered, is_sequence, items_in, closed, valid_item, valid_key, valid_value, valid_entry, one_or_none, valid_items, valid_entries, gathered_items, gathered_pairs, finished_items, finished_pairs, finished_as, finished}
+use Rattle.pv_collect.specs.State.{Tallied, Gathered, items_at, items_in, closed, valid_item, valid_key, valid_value, valid_entry, one_or_none, valid_items, valid_entries, gathered_items, gathered_pairs, finished_items, finished_pairs, finished_as, finished}
 
 pub some_errors : (es : List LineError) (o : Outcome) → 0 < length es → unless_errors es o ≡ Bad es
 some_errors [] o h = absurd (omega arith)
@@ -105,30 +106,25 @@ items_gathered r t ps =
     same_unless (es ++ missing) _ _
     (λ h. ap (λ vs. measured (length_fault r (items_in t) (length (kept r.kind vs))) t (Good (made_of r.kind (kept r.kind vs)) grade count)) (all_valid r.kind 0 ps (empty_first es missing h)))
 
-pairs_gathered : (r : GatherRule) (t : Tree) (ps : List Pair) → r.kind ≡ collection.Dict → finished_pairs (gathered_pairs r ps) t ≡ gather_pairs r t ps
+pairs_gathered : (r : GatherRule) (t : Tree) (ps : List Pair) → finished_pairs (gathered_pairs r ps) t ≡ gather_pairs r t ps
 unfolding finished_pairs gathered_pairs gather_pairs
-pairs_gathered r t ps dict =
+pairs_gathered r t ps =
     let es : List LineError = flat_map pair_errors ps in
     let grade : Grade = least_of (own_grade r.kind) (grades_of (both_in ps)) in
     let count : Option ℕ = sum_of (counts_of (both_in ps)) in
     same_unless es _ _
-    (λ h. ap (λ fs. measured (length_fault r (length (merged_entries fs)) (length (merged_entries fs))) t (Good (value.Dict (merged_entries fs)) grade count)) (all_entries ps h)
-        ∙ ap (λ k. measured (length_fault r (length (merged_entries (entries_of ps))) (length (merged_entries (entries_of ps)))) t (Good (value.Dict (merged_entries (entries_of ps))) (least_of (own_grade k) (grades_of (both_in ps))) count)) dict)
+    (λ h. ap (λ fs. measured (length_fault r (length (merged_entries fs)) (length (merged_entries fs))) t (Good (value.Dict (merged_entries fs)) grade count)) (all_entries ps h))
 
-as_items : (k : Collection) (g : Gathered) (t : Tree) → IsTrue (is_sequence k) → finished_as k g t ≡ finished_items g t
-as_items collection.List g t h = refl
-as_items collection.Tuple g t h = refl
-as_items collection.Set g t h = refl
-as_items collection.Frozen g t h = refl
-as_items collection.Dict g t h = cc
+pub items_finished : (g : Gathered) (o : Outcome) (t : Tree) → o ≡ finished g t → (ts : List Tree) (r : GatherRule) (ps : List Part) → out-Tree t ≡ Tree-F.Array ts → g ≡ gathered_items r ps
+    → o ≡ gather_items r (length ts) t ps
+unfolding finished
+items_finished g o t made ts r ps array held =
+    made ∙ ap (λ x. finished_as g t x) array ∙ ap (λ x. finished_items x t) held ∙ items_gathered r t ps ∙ ap (λ x. gather_items r (items_at x) t ps) array
 
-pub items_finished : (g : Gathered) (o : Outcome) (t : Tree) → o ≡ finished g t → (r : GatherRule) (ps : List Part) → g ≡ gathered_items r ps → IsTrue (is_sequence r.kind) → o ≡ gather_items r (items_in t) t ps
-unfolding finished gathered_items
-items_finished g o t made r ps held h = made ∙ ap (λ x. finished x t) held ∙ as_items r.kind (gathered_items r ps) t h ∙ items_gathered r t ps
-
-pub pairs_finished : (g : Gathered) (o : Outcome) (t : Tree) → o ≡ finished g t → (r : GatherRule) (ps : List Pair) → g ≡ gathered_pairs r ps → r.kind ≡ collection.Dict → o ≡ gather_pairs r t ps
-unfolding finished gathered_pairs
-pairs_finished g o t made r ps held dict = made ∙ ap (λ x. finished x t) held ∙ ap (λ k. finished_as k (gathered_pairs r ps) t) dict ∙ pairs_gathered r t ps dict
+pub pairs_finished : (g : Gathered) (o : Outcome) (t : Tree) → o ≡ finished g t → (ms : List (List ℕ × Tree)) (r : GatherRule) (ps : List Pair) → out-Tree t ≡ Tree-F.Object ms → g ≡ gathered_pairs r ps
+    → o ≡ gather_pairs r t ps
+unfolding finished
+pairs_finished g o t made ms r ps object held = made ∙ ap (λ x. finished_as g t x) object ∙ ap (λ x. finished_pairs x t) held ∙ pairs_gathered r t ps
 
 pub pairs_closed : (g : Gathered) (r : GatherRule) (es fs : List (Value × Value)) (tally : Tallied) (n : ℕ) (o : Outcome) (t : Tree)
     → g.rule ≡ r → g.entries ≡ fs → g.tally ≡ tally → es ≡ fs → n ≡ length es → o ≡ closed r t tally (value.Dict es) n n → o ≡ finished_pairs g t

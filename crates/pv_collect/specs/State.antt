@@ -45,14 +45,6 @@ held collection.Set vs ws = ws
 held collection.Frozen vs ws = ws
 held collection.Dict vs ws = vs
 
--- whether the parts of a collection are items, and not entries
-abbrev pub is_sequence : Collection → Bool
-is_sequence collection.List = true
-is_sequence collection.Tuple = true
-is_sequence collection.Set = true
-is_sequence collection.Frozen = true
-is_sequence collection.Dict = false
-
 abbrev pub items_at : Tree-F Tree → ℕ
 items_at (Tree-F.Array ts) = length ts
 items_at t = 0
@@ -165,12 +157,14 @@ finished_items g t =
 unfoldable pub finished_pairs : Gathered → Tree → Outcome
 finished_pairs g t = closed g.rule t g.tally (value.Dict g.entries) (length g.entries) (length g.entries)
 
-abbrev pub finished_as : Collection → Gathered → Tree → Outcome
-finished_as collection.List g t = finished_items g t
-finished_as collection.Tuple g t = finished_items g t
-finished_as collection.Set g t = finished_items g t
-finished_as collection.Frozen g t = finished_items g t
-finished_as collection.Dict g t = finished_pairs g t
+-- by what the tree is: the members of an object are pairs, and the items of an array are parts
+abbrev pub finished_as : Gathered → Tree → Tree-F Tree → Outcome
+finished_as g t Tree-F.Null = finished_items g t
+finished_as g t (Tree-F.Bool b) = finished_items g t
+finished_as g t (Tree-F.Num lexeme) = finished_items g t
+finished_as g t (Tree-F.Str text) = finished_items g t
+finished_as g t (Tree-F.Array ts) = finished_items g t
+finished_as g t (Tree-F.Object ms) = finished_pairs g t
 
 unfoldable pub finished : Gathered → Tree → Outcome
-finished g t = finished_as g.rule.kind g t
+finished g t = finished_as g t (out-Tree t)

@@ -1,10 +1,12 @@
 //! The outcome of a collection, when all its parts came.
 
-ghost use Rattle.std.specs.Prelude.{◌≡◌, List, IfOk, IsTrue, length};
+ghost use Rattle.std.specs.Prelude.{◌≡◌, ℕ, List, IfOk, length};
+ghost use Rattle.pv_tree.specs.declared.Tree.{out-Tree};
+ghost use Rattle.pv_tree.specs.declared.Tree.TheOpen.{Tree-F};
 ghost use Rattle.pv_rules.specs.declared.GatherRule.{GatherRule};
 ghost use Rattle.pv_collect.specs.Gathering.{Part, Pair, gather_items, gather_pairs};
 ghost use Rattle.pv_collect.specs.Gathering as gathering;
-ghost use Rattle.pv_collect.specs.State.{gathered_items, gathered_pairs, is_sequence};
+ghost use Rattle.pv_collect.specs.State.{gathered_items, gathered_pairs};
 ghost use Rattle.pv_collect.specs.State as state;
 
 use crate::errors::{only_error, push_all_missing};
@@ -126,19 +128,24 @@ impl Gather {
     fn finish_all(self, input: &Tree) -> Result<Outcome, Memory>
         ensures { IfOk result (λ o. o ≡ state.finished self input.now) }
     {
-        match self.rule.kind {
-            Collection::Dict => self.finish_pairs(input),
-            Collection::List => self.finish_items(input),
-            Collection::Tuple => self.finish_items(input),
-            Collection::Set => self.finish_items(input),
-            Collection::Frozen => self.finish_items(input),
+        match input {
+            Tree::Null => self.finish_items(input),
+            Tree::Bool(_) => self.finish_items(input),
+            Tree::Num(_) => self.finish_items(input),
+            Tree::Str(_) => self.finish_items(input),
+            Tree::Array(_) => self.finish_items(input),
+            Tree::Object(_) => self.finish_pairs(input),
         }
     }
 
-    /// The outcome of the collection that `input` is, from the outcomes of its parts.
+    /// The outcome of the array or the object that `input` is, from the outcomes of its parts.
     pub fn finish(self, input: &Tree) -> Result<Outcome, Memory>
-        ensures items { IfOk result (λ o. (rule : GatherRule) (ps : List Part) → self ≡ gathered_items rule ps → IsTrue (is_sequence rule.kind) → o ≡ gather_items rule (state.items_in input.now) input.now ps) }
-        ensures pairs { IfOk result (λ o. (rule : GatherRule) (ps : List Pair) → self ≡ gathered_pairs rule ps → rule.kind ≡ Collection.Dict → o ≡ gather_pairs rule input.now ps) }
+        ensures items { IfOk result (λ o. (ts : List Tree) (rule : GatherRule) (ps : List Part) →
+            out-Tree input.now ≡ Tree-F.Array ts → self ≡ gathered_items rule ps →
+            o ≡ gather_items rule (length ts) input.now ps) }
+        ensures pairs { IfOk result (λ o. (ms : List (List ℕ × Tree)) (rule : GatherRule) (ps : List Pair) →
+            out-Tree input.now ≡ Tree-F.Object ms → self ≡ gathered_pairs rule ps →
+            o ≡ gather_pairs rule input.now ps) }
     {
         self.finish_all(input)
     }
