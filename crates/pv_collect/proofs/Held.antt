@@ -100,8 +100,8 @@ item_added r ps p =
     (put_one r.kind (valid_items r.kind ps) (valid_item r.kind p.outcome) ∙ ap (kept r.kind) (sym (valid_more r.kind ps p)))
     refl
     (tally_more own (outcomes_in ps) p.outcome (items_errors r.kind 0 ps) here
-        ∙ ap (λ os. tally_of own os (items_errors r.kind 0 ps ++ here)) (sym (outcomes_more ps p))
-        ∙ ap (tally_of own (outcomes_in (ps ++ p ∷ []))) (sym (errors_more r.kind 0 (length ps) ps p (omega arith))))
+    ∙ ap (λ os. tally_of own os (items_errors r.kind 0 ps ++ here)) (sym (outcomes_more ps p))
+    ∙ ap (tally_of own (outcomes_in (ps ++ p ∷ []))) (sym (errors_more r.kind 0 (length ps) ps p (omega arith))))
 
 pub item_held : (g h : Gathered) (t : Tree) (o : Outcome) → h ≡ added_item g t o → (r : GatherRule) (ps : List Part) → g ≡ gathered_items r ps
     → h ≡ gathered_items r (ps ++ record { input = t; outcome = o } ∷ [])
@@ -168,8 +168,8 @@ pair_tally own os es p =
     let key : List LineError = all_under (Name (codes "[key]")) (key_errors p.name p.key) in
     let value : List LineError = errors_of p.value in
     ap (λ t. tallied t p.value (step value)) (tally_more own os p.key es (step key))
-        ∙ tally_more own (os ++ p.key ∷ []) p.value (es ++ step key) (step value)
-        ∙ ap (tally_of own ((os ++ p.key ∷ []) ++ p.value ∷ [])) (append_assoc es (step key) (step value) ∙ ap (λ xs. es ++ xs) (sym (map-append (under (Name p.name)) key value)))
+    ∙ tally_more own (os ++ p.key ∷ []) p.value (es ++ step key) (step value)
+    ∙ ap (tally_of own ((os ++ p.key ∷ []) ++ p.value ∷ [])) (append_assoc es (step key) (step value) ∙ ap (λ xs. es ++ xs) (sym (map-append (under (Name p.name)) key value)))
 
 pair_added : (r : GatherRule) (ps : List Pair) (p : Pair) → added_pair (gathered_pairs r ps) p.name p.key p.value ≡ gathered_pairs r (ps ++ p ∷ [])
 unfolding added_pair gathered_pairs
@@ -180,8 +180,8 @@ pair_added r ps p =
     refl
     (put_one_entry (valid_entries ps) (valid_key p.key) (valid_value p.value) ∙ ap merged_entries (sym (entries_more ps p)))
     (pair_tally own (both_in ps) (flat_map pair_errors ps) p
-        ∙ ap (λ os. tally_of own os (flat_map pair_errors ps ++ pair_errors p)) (sym (both_more ps p))
-        ∙ ap (tally_of own (both_in (ps ++ p ∷ []))) (sym (pairs_more ps p)))
+    ∙ ap (λ os. tally_of own os (flat_map pair_errors ps ++ pair_errors p)) (sym (both_more ps p))
+    ∙ ap (tally_of own (both_in (ps ++ p ∷ []))) (sym (pairs_more ps p)))
 
 pub pair_held : (g h : Gathered) (name : List ℕ) (k v : Outcome) → h ≡ added_pair g name k v → (r : GatherRule) (ps : List Pair) → g ≡ gathered_pairs r ps
     → h ≡ gathered_pairs r (ps ++ record { name = name; key = k; value = v } ∷ [])

@@ -90,7 +90,8 @@ gathered_items r ps = record {
   items = length ps;
   values = kept r.kind (valid_items r.kind ps);
   entries = [];
-  tally = record { errors = items_errors r.kind 0 ps; grade = least_of (own_grade r.kind) (grades_of (outcomes_in ps)); count = sum_of (counts_of (outcomes_in ps)) } }
+  tally = record { errors = items_errors r.kind 0 ps; grade = least_of (own_grade r.kind) (grades_of (outcomes_in ps)); count = sum_of (counts_of (outcomes_in ps)) };
+}
 
 -- What is held after these members of an object.
 unfoldable pub gathered_pairs : GatherRule → List Pair → Gathered
@@ -99,7 +100,8 @@ gathered_pairs r ps = record {
   items = length ps;
   values = [];
   entries = merged_entries (valid_entries ps);
-  tally = record { errors = flat_map pair_errors ps; grade = least_of (own_grade r.kind) (grades_of (both_in ps)); count = sum_of (counts_of (both_in ps)) } }
+  tally = record { errors = flat_map pair_errors ps; grade = least_of (own_grade r.kind) (grades_of (both_in ps)); count = sum_of (counts_of (both_in ps)) };
+}
 
 -- a tally with the grade and the count of one more outcome, and with these errors
 abbrev pub tallied : Tallied → Outcome → List LineError → Tallied
@@ -128,7 +130,8 @@ added_item g t o = record {
   items = g.items + 1;
   values = put_valid g.rule.kind g.values (valid_item g.rule.kind o);
   entries = g.entries;
-  tally = tallied g.tally o (all_under (Index g.items) (item_errors g.rule.kind t o)) }
+  tally = tallied g.tally o (all_under (Index g.items) (item_errors g.rule.kind t o));
+}
 
 -- of a key, and of the value at it
 abbrev pub tallied_pair : Tallied → List ℕ → Outcome → Outcome → Tallied
@@ -141,7 +144,8 @@ added_pair g name k v = record {
   items = g.items + 1;
   values = g.values;
   entries = put_valid_entry g.entries (valid_key k) (valid_value v);
-  tally = tallied_pair g.tally name k v }
+  tally = tallied_pair g.tally name k v;
+}
 
 -- The outcome from what is held: all errors, else what is wrong with the lengths, else the value.
 abbrev pub closed : GatherRule → Tree → Tallied → Value → ℕ → ℕ → Outcome

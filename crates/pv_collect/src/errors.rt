@@ -65,7 +65,13 @@ fn push_missing(alloc: Global, errors: &mut Faults, place: u64, input: &Tree) ->
 }
 
 /// An error for each of the positions that no item has.
-pub(crate) fn push_all_missing(alloc: Global, errors: &mut Faults, wanted: Option<u64>, items: u64, input: &Tree) -> Result<(), Memory>
+pub(crate) fn push_all_missing(
+    alloc: Global,
+    errors: &mut Faults,
+    wanted: Option<u64>,
+    items: u64,
+    input: &Tree,
+) -> Result<(), Memory>
     ensures { OnOk result (errors.new ≡ errors.old ++ spec.missing_of wanted items input.now) }
 {
     let Some(wanted) = wanted else {

@@ -59,7 +59,13 @@ struct Whole {
 
 /// The errors, if there are any; else what is wrong with the lengths; else the value.
 #[tactic(auto, using(crate::proofs::Ends::some_errors, crate::proofs::Ends::no_errors))]
-fn close(alloc: Global, rule: &GatherRule, input: &Tree, tally: Tally, whole: Whole) -> Result<Outcome, Memory>
+fn close(
+    alloc: Global,
+    rule: &GatherRule,
+    input: &Tree,
+    tally: Tally,
+    whole: Whole,
+) -> Result<Outcome, Memory>
     ensures { IfOk result (λ o. o ≡ state.closed rule.now input.now tally whole.value whole.items whole.kept) }
 {
     let Tally {
@@ -67,11 +73,7 @@ fn close(alloc: Global, rule: &GatherRule, input: &Tree, tally: Tally, whole: Wh
         grade,
         count,
     } = tally;
-    let Whole {
-        value,
-        items,
-        kept,
-    } = whole;
+    let Whole { value, items, kept } = whole;
     if errors.len() > 0 {
         return Ok(Outcome::Bad(errors));
     }
@@ -122,7 +124,17 @@ impl Gather {
         let entries = entries.into_entries();
         let kept = entries.len() as u64;
         let value = Value::Dict(entries);
-        close(alloc, &rule, input, tally, Whole { value, items: kept, kept })
+        close(
+            alloc,
+            &rule,
+            input,
+            tally,
+            Whole {
+                value,
+                items: kept,
+                kept,
+            },
+        )
     }
 
     fn finish_all(self, input: &Tree) -> Result<Outcome, Memory>

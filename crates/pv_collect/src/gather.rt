@@ -76,7 +76,9 @@ impl Gather {
     {
         let mut gather = self;
         match gather.rule.kind {
-            Collection::Set | Collection::Frozen => gather.distinct = gather.distinct.put(gather.alloc, value)?,
+            Collection::Set | Collection::Frozen => gather.distinct = gather
+                .distinct
+                .put(gather.alloc, value)?,
             Collection::List | Collection::Tuple | Collection::Dict => gather.values.push(value)?,
         }
         Ok(gather)
@@ -88,7 +90,9 @@ impl Gather {
         let mut gather = self;
         let kind = gather.rule.kind;
         let next = gather.items.checked_add(1).ok_or(Memory)?;
-        let value = gather.tally.item(gather.alloc, kind, gather.items, outcome, input)?;
+        let value = gather
+            .tally
+            .item(gather.alloc, kind, gather.items, outcome, input)?;
         gather.items = next;
         match value {
             Some(value) => gather.keep(value),

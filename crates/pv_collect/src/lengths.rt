@@ -32,7 +32,12 @@ pub(crate) fn wanted(rule: &GatherRule, items: u64) -> Option<u64>
     }
 }
 
-fn over(alloc: Global, kind: Collection, most: Option<u64>, actual: u64) -> Result<Option<Kind>, Memory>
+fn over(
+    alloc: Global,
+    kind: Collection,
+    most: Option<u64>,
+    actual: u64,
+) -> Result<Option<Kind>, Memory>
     ensures { IfOk result (λ k. k ≡ spec.over kind most actual) }
 {
     let Some(most) = most else {
@@ -48,7 +53,12 @@ fn over(alloc: Global, kind: Collection, most: Option<u64>, actual: u64) -> Resu
     Ok(None)
 }
 
-fn short(alloc: Global, kind: Collection, least: Option<u64>, actual: u64) -> Result<Option<Kind>, Memory>
+fn short(
+    alloc: Global,
+    kind: Collection,
+    least: Option<u64>,
+    actual: u64,
+) -> Result<Option<Kind>, Memory>
     ensures { IfOk result (λ k. k ≡ spec.short kind least actual) }
 {
     let Some(least) = least else {
@@ -66,7 +76,12 @@ fn short(alloc: Global, kind: Collection, least: Option<u64>, actual: u64) -> Re
 
 /// The first test of lengths that fails: a tuple's positions against the items of the input,
 /// then the least and the most against what the collection keeps.
-pub(crate) fn length_fault(alloc: Global, rule: &GatherRule, items: u64, kept: u64) -> Result<Option<Kind>, Memory>
+pub(crate) fn length_fault(
+    alloc: Global,
+    rule: &GatherRule,
+    items: u64,
+    kept: u64,
+) -> Result<Option<Kind>, Memory>
     ensures { IfOk result (λ k. k ≡ spec.length_fault rule.now items kept) }
 {
     if let Some(fault) = over(alloc, rule.kind, wanted(rule, items), items)? {

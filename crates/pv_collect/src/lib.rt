@@ -10,3 +10,6 @@ mod tally;
 
 pub use errors::type_error;
 pub use gather::Gather;
+
+#[cfg(test)]
+mod tests;

@@ -46,7 +46,10 @@ impl Distinct {
     pub(crate) fn put(self, alloc: Global, value: Value) -> Result<Distinct, Memory>
         ensures { IfOk result (λ d. d ≡ spec.put_item self value) }
     {
-        let Distinct { mut values, mut seen } = self;
+        let Distinct {
+            mut values,
+            mut seen,
+        } = self;
         match seen.place(alloc, &value)? {
             Place::Old(_) => Ok(Distinct { values, seen }),
             Place::New => {
@@ -102,7 +105,10 @@ impl Merged {
     pub(crate) fn put(self, alloc: Global, key: Value, value: Value) -> Result<Merged, Memory>
         ensures { IfOk result (λ m. m ≡ spec.put_entry self key value) }
     {
-        let Merged { mut entries, mut seen } = self;
+        let Merged {
+            mut entries,
+            mut seen,
+        } = self;
         match seen.place(alloc, &key)? {
             Place::Old(place) => {
                 entries[place].1 = value;

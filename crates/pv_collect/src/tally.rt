@@ -86,7 +86,13 @@ impl Tally {
         self.errors.under(from, step)
     }
 
-    fn item_here(&mut self, alloc: Global, kind: Collection, outcome: Outcome, input: &Tree) -> Result<Option<Value>, Memory>
+    fn item_here(
+        &mut self,
+        alloc: Global,
+        kind: Collection,
+        outcome: Outcome,
+        input: &Tree,
+    ) -> Result<Option<Value>, Memory>
         ensures value { IfOk result (λ v. v ≡ valid_item kind outcome) }
         ensures noted { OnOk result (self.new ≡ tallied self.old outcome (spec.item_errors kind input.now outcome)) }
     {
@@ -102,7 +108,14 @@ impl Tally {
     }
 
     /// Notes the outcome of the item at this place, and gives the value that it adds.
-    pub(crate) fn item(&mut self, alloc: Global, kind: Collection, place: u64, outcome: Outcome, input: &Tree) -> Result<Option<Value>, Memory>
+    pub(crate) fn item(
+        &mut self,
+        alloc: Global,
+        kind: Collection,
+        place: u64,
+        outcome: Outcome,
+        input: &Tree,
+    ) -> Result<Option<Value>, Memory>
         ensures value { IfOk result (λ v. v ≡ valid_item kind outcome) }
         ensures noted { OnOk result (self.new ≡ tallied self.old outcome (all_under (Index place) (spec.item_errors kind input.now outcome))) }
     {
@@ -112,7 +125,12 @@ impl Tally {
         Ok(value)
     }
 
-    fn key_here(&mut self, alloc: Global, name: &Text, outcome: Outcome) -> Result<Option<Value>, Memory>
+    fn key_here(
+        &mut self,
+        alloc: Global,
+        name: &Text,
+        outcome: Outcome,
+    ) -> Result<Option<Value>, Memory>
         ensures value { IfOk result (λ v. v ≡ valid_key outcome) }
         ensures noted { OnOk result (self.new ≡ tallied self.old outcome (spec.key_errors name.now outcome)) }
     {
@@ -120,7 +138,11 @@ impl Tally {
             return Ok(None);
         };
         if !hashable(&key) {
-            let error = error_here(alloc, Kind::DictKeyNotHashable, Tree::Str(name.share(alloc)?));
+            let error = error_here(
+                alloc,
+                Kind::DictKeyNotHashable,
+                Tree::Str(name.share(alloc)?),
+            );
             self.errors.push(error)?;
             return Ok(None);
         }
@@ -141,7 +163,13 @@ impl Tally {
     }
 
     /// Notes the outcomes of a member's key and value, and gives both as far as they add something.
-    pub(crate) fn pair(&mut self, alloc: Global, name: &Text, key: Outcome, value: Outcome) -> Result<(Option<Value>, Option<Value>), Memory>
+    pub(crate) fn pair(
+        &mut self,
+        alloc: Global,
+        name: &Text,
+        key: Outcome,
+        value: Outcome,
+    ) -> Result<(Option<Value>, Option<Value>), Memory>
         ensures key { IfOk result (λ p. p.0 ≡ valid_key key) }
         ensures value { IfOk result (λ p. p.1 ≡ valid_value value) }
         ensures noted { OnOk result (self.new ≡ tallied_pair self.old name.now key value) }
