@@ -107,18 +107,19 @@ impl Gather {
         self.add_item(outcome, input)
     }
 
-    /// Adds an entry to those of a dict, if its value is there.
-    fn keep_entry(self, key: Value, value: Option<Value>) -> Result<Gather, Memory>
-        ensures { IfOk result (λ g. g ≡ record self { entries = state.put_valid_entry self.entries (Some key) value }) }
+    /// Adds an entry to those of a dict, if its key and its value are there.
+    fn keep_entry(self, key: Option<Value>, value: Option<Value>) -> Result<Gather, Memory>
+        ensures { IfOk result (λ g. g ≡ record self { entries = state.put_valid_entry self.entries key value }) }
     {
         let mut gather = self;
-        match value {
-            Some(value) => {
-                gather.entries = gather.entries.put(gather.alloc, key, value)?;
-                Ok(gather)
-            }
-            None => Ok(gather),
-        }
+        let Some(key) = key else {
+            return Ok(gather);
+        };
+        let Some(value) = value else {
+            return Ok(gather);
+        };
+        gather.entries = gather.entries.put(gather.alloc, key, value)?;
+        Ok(gather)
     }
 
     fn add_pair(self, name: &Text, key: Outcome, value: Outcome) -> Result<Gather, Memory>
@@ -128,10 +129,7 @@ impl Gather {
         let next = gather.items.checked_add(1).ok_or(Memory)?;
         let (key, value) = gather.tally.pair(gather.alloc, name, key, value)?;
         gather.items = next;
-        match key {
-            Some(key) => gather.keep_entry(key, value),
-            None => Ok(gather),
-        }
+        gather.keep_entry(key, value)
     }
 
     /// Adds the outcomes of the next member's key and value.
