@@ -1,10 +1,10 @@
 -- Reflexivity, symmetry and transitivity at one item, and how they pass to lists of such items.
-use Rattle.std.proofs.Common.{◌≡◌, ◌&&◌, Bool, true, false, List, [], ◌∷◌, refl}
+use Rattle.std.proofs.Common.{◌≡◌, Bool, true, List, [], ◌∷◌, refl}
 use Rattle.std.specs.List.{AllByRecursion}
 use lib.Pointwise.{pointwise}
 use Rattle.pv_equality.specs.Equality.{mutual_inclusion}
 use Rattle.pv_equality.proofs.Bools.{both, first, second}
-use Rattle.pv_equality.proofs.Inclusion.{In, at, Included, told, tell}
+use Rattle.pv_equality.proofs.Inclusion.{at, told, tell}
 
 module _ {X : Type 0} (f : X → X → Bool) where
   abbrev pub Refl : X → Type 0

@@ -1,8 +1,7 @@
 -- Tests of each and of some item of a list, and inclusion both ways.
-use Rattle.std.proofs.Common.{◌≡◌, ◌&&◌, ◌||◌, ◌⊎◌, inl, inr, Bool, true, false, List, [], ◌∷◌, map, refl, sym, ◌∙◌, subst}
+use Rattle.std.proofs.Common.{◌≡◌, ◌&&◌, ◌||◌, ◌⊎◌, inl, inr, Bool, true, List, [], ◌∷◌, map, refl, sym, ◌∙◌, subst}
 use Rattle.std.specs.List.{list_all, list_any, AllByRecursion}
 use Rattle.std.proofs.lemmas.List.Folds.{list_all-map}
-use lib.Pointwise.{pointwise}
 use Rattle.pv_equality.specs.Equality.{mutual_inclusion}
 use Rattle.pv_equality.proofs.Bools.{both, first, second, on_left, on_right, either}
 

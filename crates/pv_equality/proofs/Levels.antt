@@ -1,5 +1,5 @@
 -- Equality of two values is that of the shapes of their levels.
-use Rattle.std.proofs.Common.{◌≡◌, ◌&&◌, ◌==◌, ℕ, Bool, true, false, List, [], ◌∷◌, map, refl, sym, ap, ◌∙◌, subst, bytes_eq}
+use Rattle.std.proofs.Common.{◌≡◌, ◌&&◌, ◌==◌, ℕ, Bool, true, List, [], ◌∷◌, map, refl, sym, ◌∙◌, subst, bytes_eq}
 use Rattle.std.specs.List.{AllByRecursion}
 use Rattle.std.proofs.Math.Bool.{and-true}
 use lib.Pointwise.{pointwise}
@@ -16,7 +16,7 @@ use Rattle.pv_equality.proofs.Bools.{and_assoc}
 use Rattle.pv_equality.proofs.Inclusion.{inclusion_made}
 use Rattle.pv_equality.proofs.Equivalence.{Refl, Symm, Trans}
 use Rattle.pv_equality.proofs.SameLevels.{tests, same_levels, pointwise_map, inclusion_map}
-use Rattle.pv_equality.proofs.Shapes.{Shape, Part, shape, same_shape, same_part, lone, pair, named, atom_number, AllWithin, shape_refl, shape_symm, shape_trans}
+use Rattle.pv_equality.proofs.Shapes.{Part, shape, same_shape, same_part, lone, pair, named, atom_number, AllWithin, shape_refl, shape_symm, shape_trans}
 
 kinds_told : (k l : AtomKind) → same_kind k l ≡ (atom_number k == atom_number l)
 kinds_told Uuid Uuid = refl

@@ -1,24 +1,19 @@
 -- Each level of a value in one form: what stands there itself, the values inside in order, and the sets of parts inside.
-use Rattle.std.proofs.Common.{◌≡◌, ◌&&◌, ◌==◌, ℕ, Bool, true, false, List, [], ◌∷◌, map, refl, sym, ap, ◌∙◌, subst, bytes_eq}
+use Rattle.std.proofs.Common.{◌≡◌, ◌&&◌, ◌==◌, ℕ, Bool, true, List, [], ◌∷◌, map, ◌∙◌, bytes_eq}
 use Rattle.std.specs.List.{AllByRecursion}
 use Rattle.std.specs.Cmp.{IsEquivalence}
 use Rattle.std.proofs.lemmas.Cmp.{and_equiv, on_equiv, lists_equiv, nat_list_eq_equiv, nat_eq_equiv}
-use Rattle.std.proofs.Math.Bool.{and-true}
 use lib.Pointwise.{pointwise}
 use Rattle.pv_number.specs.ExactNumber.{Number, number}
 use Rattle.pv_number.specs.NumberEquality.{int_number}
-use Rattle.pv_tree.specs.declared.Value.{Value, map-Value}
 use Rattle.pv_tree.specs.declared.Value.TheOpen.{Value-F}
-use Rattle.pv_tree.specs.declared.Value.TheViews.{roll-Value}
-use Rattle.pv_tree.specs.declared.Value.TheFolds.{ind-Value}
 use Rattle.pv_tree.specs.declared.AtomKind.{AtomKind}
 use Rattle.pv_tree.specs.declared.AtomKind.TheVariants.{Uuid, Url, Date, Time, DateTime, Decimal}
-use Rattle.pv_equality.specs.Equality.{Test, same, same_at, same_number, same_kind, flag_number, mutual_inclusion, same_entry, same_field}
+use Rattle.pv_equality.specs.Equality.{same_number, flag_number, mutual_inclusion}
 use Rattle.pv_equality.proofs.Numbers.{numbers_equiv}
 use Rattle.pv_equality.proofs.Bools.{both, first, second}
-use Rattle.pv_equality.proofs.Inclusion.{each_so, inclusion_made}
+use Rattle.pv_equality.proofs.Inclusion.{each_so}
 use Rattle.pv_equality.proofs.Equivalence.{Refl, Symm, Trans, items_refl, items_symm, items_trans, sets_refl, sets_symm, sets_trans}
-use Rattle.pv_equality.proofs.SameLevels.{tests, same_levels, pointwise_map, inclusion_map}
 
 -- a name and the values that it stands for
 abbrev pub Part : Type 0 → Type 0
