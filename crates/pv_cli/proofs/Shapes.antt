@@ -1,27 +1,28 @@
 -- What an answer to a document has on its streams.
 use Rattle.std.proofs.Common.{◌≡◌, ℕ, true, false, List, length, Some, None, refl, ap, ◌∙◌, subst}
-use Rattle.std.specs.Prelude.{Option, Result, Ok, Err, ℤ}
-use Rattle.pv_number.specs.WrittenIntegers.{integer}
+use Rattle.std.specs.Prelude.{Bool, codes, Option, Result, Ok, Err}
 use Rattle.pv_json_grammar.specs.Values.{document}
-use Rattle.pv_tree.specs.declared.Tree.{Tree, out-Tree}
-use Rattle.pv_tree.specs.declared.Tree.TheOpen.{Tree-F}
-use Rattle.std.specs.Fmt.{signed_decimal}
+use Rattle.pv_tree.specs.declared.Step.{Step}
+use Rattle.pv_tree.specs.declared.Tree.{Tree}
 use Rattle.pv_notation.specs.Notation.{notation}
-use Rattle.pv_tree.specs.Plain.{plain}
-use Rattle.pv_cli.specs.Faults.{fault_text}
-use Rattle.pv_cli.specs.Answering.{of_schema, of_served}
-use Rattle.pv_cli.specs.Faults.{schema_fault_text}
-use Rattle.pv_cli.specs.Lines.{schema_refused}
+use Rattle.pv_fault.specs.Errors.{errors_text}
+use Rattle.pv_fault.specs.declared.Outcome.{Outcome}
+use Rattle.pv_fault.specs.declared.Outcome.TheVariants.{Good, Bad}
+use Rattle.pv_node.specs.declared.Node.{Node}
+use Rattle.pv_schema.specs.declared.SchemaFault.{SchemaFault}
+use Rattle.pv_schema.specs.declared.SchemaFault.TheVariants as fault
+use Rattle.pv_schema.specs.Reading.{schema_of}
+use Rattle.pv_plan.specs.BadPatterns.{bad_pattern}
+use Rattle.pv_engine.specs.Meaning.{full_depth, meaning}
+use Rattle.pv_cli.specs.Faults.{fault_text, schema_fault_text}
+use Rattle.pv_cli.specs.Answering.{of_schema, of_shape, of_built}
+use Rattle.pv_cli.specs.Lines.{schema_refused, placed_text, code_text, too_many_text, words_refused, IsLineOf, IsOutOf}
 use Rattle.pv_cli.specs.Running.{is_printed}
-use Rattle.pv_cli.specs.Schemas.{schema_of}
 use Rattle.pv_cli.specs.Steps.{DecidesSchema, outcome_of}
-use Rattle.pv_cli.specs.declared.working.SchemaStep.{SchemaStep}
-use Rattle.pv_cli.specs.declared.working.SchemaStep.TheVariants.{Answered}
-use Rattle.pv_cli.specs.Documents.{refused, json_errors, int_type_errors, printed, not_built, int_number, int_at, int_answer, of_tree, of_reading, of_document}
-use Rattle.pv_cli.specs.Lines.{IsLineOf, IsOutOf}
+use Rattle.pv_cli.specs.Documents.{refused, json_errors, printed, not_built, of_outcome, of_reading, of_document}
+use Rattle.pv_cli.specs.declared.schema.SchemaStep.{SchemaStep}
+use Rattle.pv_cli.specs.declared.schema.SchemaStep.TheVariants.{Answered}
 use Rattle.pv_cli.specs.declared.answer.Answer.{Answer}
-use Rattle.pv_cli.specs.declared.schema.Schema.{Schema}
-use Rattle.pv_cli.specs.declared.schema.Schema.TheVariants as schema
 use Rattle.pv_cli.specs.declared.status.Status.TheVariants as status
 
 -- its line and its output are those of its status, and it tells of no file
@@ -30,64 +31,59 @@ pub record IsSettled (a : Answer) : Type 0 where
   pub out : IsOutOf a.status a.out
   pub read : a.status ≡ status.ReadFault → ⊥
   pub small : a.status ≡ status.TooLarge → ⊥
+  pub worded : a.status ≡ status.WordsRefused → ⊥
 
 valid : (text : List ℕ) → IsSettled (printed text status.Valid)
-valid text = record { line = λ names. refl; out = tt; read = λ e. cc; small = λ e. cc }
+valid text = record { line = λ names. refl; out = tt; read = λ e. cc; small = λ e. cc; worded = λ e. cc }
 
 invalid : (text : List ℕ) → IsSettled (printed text status.Invalid)
-invalid text = record { line = λ names. refl; out = tt; read = λ e. cc; small = λ e. cc }
+invalid text = record { line = λ names. refl; out = tt; read = λ e. cc; small = λ e. cc; worded = λ e. cc }
 
 pub unbuilt : IsSettled not_built
-unbuilt = record { line = λ names. refl; out = refl; read = λ e. cc; small = λ e. cc }
+unbuilt = record { line = λ names. refl; out = refl; read = λ e. cc; small = λ e. cc; worded = λ e. cc }
 
-number : (n : Option ℤ) → IsSettled (int_number n)
-number (Some n) = valid (signed_decimal n)
-number None = unbuilt
+outcome : (o : Outcome) → IsSettled (of_outcome o)
+outcome (Good v grade fields) = valid (notation v)
+outcome (Bad errors) = invalid (errors_text errors)
 
-level : (t : Tree) (l : Tree-F Tree) → IsSettled (int_at t l)
-level t Tree-F.Null = invalid (int_type_errors t)
-level t (Tree-F.Bool b) = unbuilt
-level t (Tree-F.Num lexeme) = number (integer lexeme)
-level t (Tree-F.Str text) = unbuilt
-level t (Tree-F.Array items) = invalid (int_type_errors t)
-level t (Tree-F.Object members) = invalid (int_type_errors t)
+reading : (strict : Option Bool) (n : Node) (size : ℕ) (read : Result Tree ℕ) → IsSettled (of_reading strict n size read)
+reading strict n size (Ok t) = outcome (meaning strict full_depth n t)
+reading strict n size (Err left) = invalid (json_errors (fault_text size left))
 
-tree : (s : Schema) (t : Tree) → IsSettled (of_tree s t)
-unfolding int_answer
-tree schema.Int t = level t (out-Tree t)
-tree schema.Any t = valid (notation (plain t))
-
-reading : (s : Schema) (size : ℕ) (read : Result Tree ℕ) → IsSettled (of_reading s size read)
-reading s size (Ok t) = tree s t
-reading s size (Err left) = invalid (json_errors (fault_text size left))
-
-pub document_settled : (s : Schema) (bs : List ℕ) → IsSettled (of_document s bs)
+pub document_settled : (strict : Option Bool) (n : Node) (bs : List ℕ) → IsSettled (of_document strict n bs)
 unfolding of_document
-document_settled s bs = reading s (length bs) (document 128 bs)
+document_settled strict n bs = reading strict n (length bs) (document 128 bs)
 
 -- ---- a schema file that decides the answer
 
 refused_schema : (text : List ℕ) → IsSettled (refused (schema_refused text) status.SchemaRefused)
-refused_schema text = record { line = λ names. (text, refl); out = refl; read = λ e. cc; small = λ e. cc }
+refused_schema text = record { line = λ names. (text, refl); out = refl; read = λ e. cc; small = λ e. cc; worded = λ e. cc }
 
-abbrev unserved : Schema → Answer
-unserved s = not_built
+abbrev unserved : Node → Answer
+unserved n = not_built
 
 -- nothing is printed
 record IsUnprinted (a : Answer) : Type 0 where
   settled : IsSettled a
   silent : is_printed a.status ≡ false
 
-by_tree : (s : Option Schema) → IsUnprinted (of_served unserved s)
-by_tree None = record { settled = unbuilt; silent = refl }
-by_tree (Some s) = record { settled = unbuilt; silent = refl }
+by_built : (n : Node) (bad : Option (List Step)) → IsUnprinted (of_built unserved n bad)
+by_built n None = record { settled = unbuilt; silent = refl }
+by_built n (Some path) = record { settled = refused_schema (placed_text (codes "bad pattern") path); silent = refl }
+
+by_shape : (read : Result Node SchemaFault) → IsUnprinted (of_shape unserved read)
+by_shape (Ok n) = by_built n (bad_pattern n)
+by_shape (Err (fault.Shape path code)) = record { settled = refused_schema (placed_text (code_text code) path); silent = refl }
+by_shape (Err (fault.NotYet path)) = record { settled = unbuilt; silent = refl }
+by_shape (Err (fault.TooManyNodes count)) = record { settled = refused_schema too_many_text; silent = refl }
+by_shape (Err fault.Memory) = record { settled = unbuilt; silent = refl }
 
 by_schema : (size : ℕ) (read : Result Tree ℕ) → IsUnprinted (of_schema unserved size read)
-by_schema size (Ok t) = by_tree (schema_of t)
+by_schema size (Ok t) = by_shape (schema_of t)
 by_schema size (Err left) = record { settled = refused_schema (schema_fault_text size left); silent = refl }
 
 -- it is the answer whatever schema would be served
-pub always : (size : ℕ) (read : Result Tree ℕ) (step : SchemaStep) (a : Answer) → DecidesSchema size read step → step ≡ Answered a → (next : Schema → Answer) → of_schema next size read ≡ a
+pub always : (size : ℕ) (read : Result Tree ℕ) (step : SchemaStep) (a : Answer) → DecidesSchema size read step → step ≡ Answered a → (next : Node → Answer) → of_schema next size read ≡ a
 always size read step a d e next = d next ∙ ap (λ s. outcome_of s next) e
 
 pub answered_settled : (size : ℕ) (read : Result Tree ℕ) (step : SchemaStep) (a : Answer) → DecidesSchema size read step → step ≡ Answered a → IsSettled a

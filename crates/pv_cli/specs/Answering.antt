@@ -1,15 +1,21 @@
--- The answer to words, where it is told which files are held. The first step that refuses decides.
-use Rattle.std.specs.Prelude.{ℕ, if◌then◌else◌, nat_le, List, length, Option, Some, None, Result, Ok, Err}
-use Rattle.pv_tree.specs.declared.Tree.{Tree}
-use Rattle.pv_json_grammar.specs.Values.{document}
+-- The answer to words and files, which the first of the steps decides that refuses: the words, the schema file, its JSON, its shape, its number of nodes, its patterns, the document file,
+-- and what the schema means for it.
+use Rattle.std.specs.Prelude.{ℕ, Bool, nat_le, if◌then◌else◌, List, length, Option, Some, None, Result, Ok, Err}
 use Rattle.pv_edge.specs.Files.{file}
-use Rattle.pv_cli.specs.Command.{command}
+use Rattle.pv_json_grammar.specs.Values.{document}
+use Rattle.pv_tree.specs.declared.Step.{Step}
+use Rattle.pv_tree.specs.declared.Tree.{Tree}
+use Rattle.pv_node.specs.declared.Node.{Node}
+use Rattle.pv_schema.specs.declared.SchemaFault.{SchemaFault}
+use Rattle.pv_schema.specs.declared.SchemaFault.TheVariants as fault
+use Rattle.pv_schema.specs.Reading.{schema_of}
+use Rattle.pv_plan.specs.BadPatterns.{bad_pattern}
+use Rattle.std.specs.Prelude.{codes}
+use Rattle.pv_cli.specs.Asking.{Asked, unbuilt, misplaced, validated, asked}
 use Rattle.pv_cli.specs.Faults.{schema_fault_text}
-use Rattle.pv_cli.specs.Lines.{read_failed, too_large, schema_refused}
-use Rattle.pv_cli.specs.Schemas.{schema_of}
+use Rattle.pv_cli.specs.Lines.{read_failed, too_large, schema_refused, words_refused, code_text, placed_text, too_many_text}
 use Rattle.pv_cli.specs.Documents.{refused, not_built, of_document}
 use Rattle.pv_cli.specs.declared.answer.Answer.{Answer}
-use Rattle.pv_cli.specs.declared.schema.Schema.{Schema}
 use Rattle.pv_cli.specs.declared.status.Status.TheVariants as status
 
 -- how many bytes a file may have
@@ -21,18 +27,32 @@ abbrev pub of_file : List ℕ → (List ℕ → Answer) → Option (List ℕ) �
 of_file name next None = refused (read_failed name) status.ReadFault
 of_file name next (Some bytes) = if nat_le (length bytes) limit then next bytes else refused (too_large name) status.TooLarge
 
-abbrev pub of_served : (Schema → Answer) → Option Schema → Answer
-of_served next None = not_built
-of_served next (Some schema) = next schema
+-- a schema and its first bad pattern, and what the schema leads to
+abbrev pub of_built : (Node → Answer) → Node → Option (List Step) → Answer
+of_built next schema None = next schema
+of_built next schema (Some path) = refused (schema_refused (placed_text (codes "bad pattern") path)) status.SchemaRefused
 
-abbrev pub of_schema : (Schema → Answer) → ℕ → Result Tree ℕ → Answer
-of_schema next size (Ok t) = of_served next (schema_of t)
+-- Reading gives no want of memory as a refusal.
+abbrev pub of_shape : (Node → Answer) → Result Node SchemaFault → Answer
+of_shape next (Ok schema) = of_built next schema (bad_pattern schema)
+of_shape next (Err (fault.Shape path code)) = refused (schema_refused (placed_text (code_text code) path)) status.SchemaRefused
+of_shape next (Err (fault.NotYet path)) = not_built
+of_shape next (Err (fault.TooManyNodes count)) = refused (schema_refused too_many_text) status.SchemaRefused
+of_shape next (Err fault.Memory) = not_built
+
+-- the JSON of a schema file of so many bytes
+abbrev pub of_schema : (Node → Answer) → ℕ → Result Tree ℕ → Answer
+of_schema next size (Ok t) = of_shape next (schema_of t)
 of_schema next size (Err left) = refused (schema_refused (schema_fault_text size left)) status.SchemaRefused
 
-abbrev pub of_command : List (List ℕ × List ℕ) → Option (List ℕ × List ℕ) → Answer
-of_command held None = not_built
-of_command held (Some names) =
-    of_file names.0 (λ bytes. of_schema (λ schema. of_file names.1 (of_document schema) (file held names.1)) (length bytes) (document 128 bytes)) (file held names.0)
+abbrev pub of_files : Option Bool → List (List ℕ × List ℕ) → List ℕ → List ℕ → Answer
+of_files strict held schema_name name =
+    of_file schema_name (λ bytes. of_schema (λ schema. of_file name (of_document strict schema) (file held name)) (length bytes) (document 128 bytes)) (file held schema_name)
+
+abbrev pub of_asked : List (List ℕ × List ℕ) → Asked → Answer
+of_asked held unbuilt = not_built
+of_asked held (misplaced at) = refused (words_refused at) status.WordsRefused
+of_asked held (validated strict schema document) = of_files strict held schema document
 
 unfoldable pub answer : List (List ℕ) → List (List ℕ × List ℕ) → Answer
-answer words held = of_command held (command words)
+answer words held = of_asked held (asked words)

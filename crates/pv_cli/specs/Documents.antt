@@ -1,21 +1,19 @@
 -- What is answered to a document under a schema.
-use Rattle.std.specs.Prelude.{ℕ, List, [], ◌∷◌, length, codes, ℤ, Option, Some, None, Result, Ok, Err}
-use Rattle.std.specs.Fmt.{signed_decimal}
-use Rattle.pv_number.specs.WrittenIntegers.{integer}
-use Rattle.pv_tree.specs.Plain.{plain}
-use Rattle.pv_tree.specs.declared.Tree.{Tree, out-Tree}
+use Rattle.std.specs.Prelude.{ℕ, Bool, List, [], ◌∷◌, length, codes, Option, Result, Ok, Err}
+use Rattle.pv_tree.specs.declared.Tree.{Tree}
 use Rattle.pv_tree.specs.declared.Tree.TheVariants as tree
-use Rattle.pv_tree.specs.declared.Tree.TheOpen.{Tree-F}
 use Rattle.pv_fault.specs.Errors.{errors_text}
 use Rattle.pv_fault.specs.declared.Kind.{Kind}
 use Rattle.pv_fault.specs.declared.Kind.TheVariants as kind
+use Rattle.pv_fault.specs.declared.Outcome.{Outcome}
+use Rattle.pv_fault.specs.declared.Outcome.TheVariants.{Good, Bad}
+use Rattle.pv_node.specs.declared.Node.{Node}
 use Rattle.pv_notation.specs.Notation.{notation}
 use Rattle.pv_json_grammar.specs.Values.{document}
+use Rattle.pv_engine.specs.Meaning.{full_depth, meaning}
 use Rattle.pv_cli.specs.Faults.{fault_text}
 use Rattle.pv_cli.specs.Lines.{line}
 use Rattle.pv_cli.specs.declared.answer.Answer.{Answer}
-use Rattle.pv_cli.specs.declared.schema.Schema.{Schema}
-use Rattle.pv_cli.specs.declared.schema.Schema.TheVariants as schema
 use Rattle.pv_cli.specs.declared.status.Status.{Status}
 use Rattle.pv_cli.specs.declared.status.Status.TheVariants as status
 
@@ -34,38 +32,17 @@ not_built = refused (line (codes "not built yet")) status.NotYet
 abbrev pub one_error : Kind → Tree → List ℕ
 one_error kind t = errors_text (record { kind = kind; loc = []; input = t } ∷ [])
 
-abbrev pub int_type_errors : Tree → List ℕ
-int_type_errors t = one_error kind.IntType t
-
 abbrev pub json_errors : List ℕ → List ℕ
 json_errors text = one_error (kind.JsonInvalid text) tree.Null
 
--- a number under `int`, by the integer that is written there
-abbrev pub int_number : Option ℤ → Answer
-int_number (Some n) = printed (signed_decimal n) status.Valid
-int_number None = not_built
+-- the notation of a value, or the list of errors
+abbrev pub of_outcome : Outcome → Answer
+of_outcome (Good v grade fields) = printed (notation v) status.Valid
+of_outcome (Bad errors) = printed (errors_text errors) status.Invalid
 
-abbrev pub int_at : Tree → Tree-F Tree → Answer
-int_at t Tree-F.Null = printed (int_type_errors t) status.Invalid
-int_at t (Tree-F.Bool b) = not_built
-int_at t (Tree-F.Num lexeme) = int_number (integer lexeme)
-int_at t (Tree-F.Str text) = not_built
-int_at t (Tree-F.Array items) = printed (int_type_errors t) status.Invalid
-int_at t (Tree-F.Object members) = printed (int_type_errors t) status.Invalid
+abbrev pub of_reading : Option Bool → Node → ℕ → Result Tree ℕ → Answer
+of_reading strict schema size (Ok t) = of_outcome (meaning strict full_depth schema t)
+of_reading strict schema size (Err left) = printed (json_errors (fault_text size left)) status.Invalid
 
-unfoldable pub int_answer : Tree → Answer
-int_answer t = int_at t (out-Tree t)
-
-abbrev pub any_answer : Tree → Answer
-any_answer t = printed (notation (plain t)) status.Valid
-
-abbrev pub of_tree : Schema → Tree → Answer
-of_tree schema.Int t = int_answer t
-of_tree schema.Any t = any_answer t
-
-abbrev pub of_reading : Schema → ℕ → Result Tree ℕ → Answer
-of_reading schema size (Ok t) = of_tree schema t
-of_reading schema size (Err left) = printed (json_errors (fault_text size left)) status.Invalid
-
-unfoldable pub of_document : Schema → List ℕ → Answer
-of_document schema bytes = of_reading schema (length bytes) (document 128 bytes)
+unfoldable pub of_document : Option Bool → Node → List ℕ → Answer
+of_document strict schema bytes = of_reading strict schema (length bytes) (document 128 bytes)

@@ -1,8 +1,7 @@
 pub mod Codes
-pub mod Command
+pub mod Asking
 pub mod Lines
 pub mod Faults
-pub mod Schemas
 pub mod Documents
 pub mod Answering
 pub mod Running

@@ -1,20 +1,17 @@
 //! The answer to a document under a schema.
 
 ghost use Rattle.std.specs.Prelude.{◌≡◌, ◌++◌, IfOk, codes, decimal};
-ghost use Rattle.std.specs.Fmt.{signed_decimal};
 ghost use Rattle.pv_cli.specs.Documents as spec;
-ghost use Rattle.pv_number.specs.WrittenIntegers.{integer};
 
 use crate::answer::Answer;
-use crate::schema::Schema;
 use crate::status::Status;
-use itoa::Buffer;
-use pv_fault::{Faults, Kind, LineError, write_faults};
+use pv_engine::validate;
+use pv_fault::{Faults, Kind, LineError, Outcome, write_faults};
 use pv_json::{ReadFault, read};
 use pv_notation::write_value;
-use pv_number::{Lexeme, integer};
+use pv_plan::Plan;
 use pv_text::{ByteBuf, Memory, Text};
-use pv_tree::{Loc, Tree, plain_value};
+use pv_tree::{Loc, Tree};
 use std::alloc::Global;
 
 /// The printed list of one error at the document itself.
@@ -46,54 +43,6 @@ fn end_text(alloc: Global) -> Result<Text, Memory>
     Text::from_str(alloc, "unexpected end of input")
 }
 
-fn decimal_text(alloc: Global, n: i128) -> Result<ByteBuf, Memory>
-    ensures { IfOk result (λ b. b ≡ signed_decimal n) }
-{
-    let mut out = ByteBuf::new(alloc);
-    let mut buffer = Buffer::new();
-    out.push_slice(buffer.format(n).as_bytes())?;
-    Ok(out)
-}
-
-fn int_number(alloc: Global, lexeme: &Lexeme) -> Result<Answer, Memory>
-    ensures { IfOk result (λ a. a ≡ spec.int_number (integer lexeme.now)) }
-{
-    match integer(lexeme) {
-        Some(n) => Answer::printed(alloc, decimal_text(alloc, n)?, Status::Valid),
-        None => Answer::not_built(alloc),
-    }
-}
-
-fn int_type(alloc: Global, tree: &Tree) -> Result<Answer, Memory>
-    ensures { IfOk result (λ a. a ≡ spec.printed (spec.int_type_errors tree.now) Status.Invalid) }
-{
-    let errors = one_error(alloc, Kind::IntType, tree.share(alloc)?)?;
-    Answer::printed(alloc, errors, Status::Invalid)
-}
-
-#[tactic(auto, unfolding(crate::specs::Documents::int_answer))]
-fn int_answer(alloc: Global, tree: &Tree) -> Result<Answer, Memory>
-    ensures { IfOk result (λ a. a ≡ spec.int_answer tree.now) }
-{
-    match tree {
-        Tree::Null => int_type(alloc, tree),
-        Tree::Bool(_) => Answer::not_built(alloc),
-        Tree::Num(lexeme) => int_number(alloc, lexeme),
-        Tree::Str(_) => Answer::not_built(alloc),
-        Tree::Array(_) => int_type(alloc, tree),
-        Tree::Object(_) => int_type(alloc, tree),
-    }
-}
-
-fn any_answer(alloc: Global, tree: &Tree) -> Result<Answer, Memory>
-    ensures { IfOk result (λ a. a ≡ spec.any_answer tree.now) }
-{
-    let value = plain_value(alloc, tree)?;
-    let mut out = ByteBuf::new(alloc);
-    write_value(&value, &mut out)?;
-    Answer::printed(alloc, out, Status::Valid)
-}
-
 fn no_json(alloc: Global, error: Text) -> Result<Answer, Memory>
     ensures { IfOk result (λ a. a ≡ spec.printed (spec.json_errors error) Status.Invalid) }
 {
@@ -101,15 +50,37 @@ fn no_json(alloc: Global, error: Text) -> Result<Answer, Memory>
     Answer::printed(alloc, errors, Status::Invalid)
 }
 
+/// The notation of a value, or the list of errors.
+fn answer_outcome(alloc: Global, outcome: &Outcome) -> Result<Answer, Memory>
+    ensures { IfOk result (λ a. a ≡ spec.of_outcome outcome.now) }
+{
+    let mut out = ByteBuf::new(alloc);
+    match outcome {
+        Outcome::Good { value, .. } => {
+            write_value(value, &mut out)?;
+            Answer::printed(alloc, out, Status::Valid)
+        }
+        Outcome::Bad(errors) => {
+            write_faults(errors, &mut out)?;
+            Answer::printed(alloc, out, Status::Invalid)
+        }
+    }
+}
+
 #[tactic(auto, unfolding(crate::specs::Documents::of_document))]
-pub(crate) fn answer_document(alloc: Global, schema: Schema, bytes: &[u8]) -> Result<Answer, Memory>
-    ensures { IfOk result (λ a. a ≡ spec.of_document schema bytes.now) }
+pub(crate) fn answer_document(
+    alloc: Global,
+    strict: Option<bool>,
+    plan: &Plan,
+    bytes: &[u8],
+) -> Result<Answer, Memory>
+    ensures { IfOk result (λ a. a ≡ spec.of_document strict plan.now bytes.now) }
 {
     match read(alloc, bytes) {
-        Ok(tree) => match schema {
-            Schema::Int => int_answer(alloc, &tree),
-            Schema::Any => any_answer(alloc, &tree),
-        },
+        Ok(tree) => {
+            let outcome = validate(alloc, plan, strict, &tree)?;
+            answer_outcome(alloc, &outcome)
+        }
         Err(ReadFault::Bad { at }) => no_json(alloc, bad_text(alloc, at)?),
         Err(ReadFault::End) => no_json(alloc, end_text(alloc)?),
         Err(ReadFault::Memory) => Err(Memory),

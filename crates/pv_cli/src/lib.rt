@@ -2,7 +2,7 @@
 #![tactic(auto)]
 
 mod answer;
-mod command;
+mod asking;
 mod document;
 mod lines;
 mod running;
@@ -10,11 +10,9 @@ mod schema;
 mod status;
 #[cfg(test)]
 mod tests;
-mod words;
 mod working;
 
 pub use answer::Answer;
+pub use pv_command::Words;
 pub use running::run;
-pub use schema::Schema;
 pub use status::Status;
-pub use words::Words;

@@ -5,8 +5,10 @@ ghost use Rattle.pv_cli.specs.Lines as spec;
 ghost use Rattle.pv_notation.specs.Strings.{quoted};
 
 use itoa::Buffer;
-use pv_notation::write_quoted;
+use pv_notation::{write_loc, write_quoted};
+use pv_schema::ShapeCode;
 use pv_text::{ByteBuf, Memory, Text};
+use pv_tree::Loc;
 use std::alloc::Global;
 
 /// A line of these words and a name in quotes.
@@ -49,5 +51,62 @@ pub(crate) fn schema_ends_early(alloc: Global) -> Result<ByteBuf, Memory>
 {
     let mut out = ByteBuf::new(alloc);
     out.push_slice(b"schema refused: JSON ends early\n")?;
+    Ok(out)
+}
+
+fn code_text(code: ShapeCode) -> &'static str
+    ensures { result.now ≡ spec.code_text code }
+{
+    match code {
+        ShapeCode::NotObject => "not_object",
+        ShapeCode::MissingKey => "missing_key",
+        ShapeCode::UnknownType => "unknown_type",
+        ShapeCode::UnknownKey => "unknown_key",
+        ShapeCode::BadValue => "bad_value",
+    }
+}
+
+/// The line for what is wrong at a place of a schema.
+fn schema_placed(alloc: Global, what: &str, path: &Loc) -> Result<ByteBuf, Memory>
+    ensures { IfOk result (λ b. b ≡ spec.schema_refused (spec.placed_text what.now path.now)) }
+{
+    let mut out = ByteBuf::new(alloc);
+    out.push_slice(b"schema refused: ")?;
+    out.push_slice(what.as_bytes())?;
+    out.push_slice(b" at ")?;
+    write_loc(path, &mut out)?;
+    out.push(b'\n')?;
+    Ok(out)
+}
+
+pub(crate) fn bad_shape(alloc: Global, code: ShapeCode, path: &Loc) -> Result<ByteBuf, Memory>
+    ensures { IfOk result (λ b. b ≡ spec.schema_refused (spec.placed_text (spec.code_text code) path.now)) }
+{
+    schema_placed(alloc, code_text(code), path)
+}
+
+pub(crate) fn bad_pattern(alloc: Global, path: &Loc) -> Result<ByteBuf, Memory>
+    ensures { IfOk result (λ b. b ≡ spec.schema_refused (spec.placed_text (codes "bad pattern") path.now)) }
+{
+    schema_placed(alloc, "bad pattern", path)
+}
+
+pub(crate) fn too_many_nodes(alloc: Global) -> Result<ByteBuf, Memory>
+    ensures { IfOk result (λ b. b ≡ spec.schema_refused spec.too_many_text) }
+{
+    let mut out = ByteBuf::new(alloc);
+    out.push_slice(b"schema refused: more than 100000 nodes\n")?;
+    Ok(out)
+}
+
+/// The line for words of which the one at the place `at`, from 1, cannot stand there.
+pub(crate) fn words_refused(alloc: Global, at: u64) -> Result<ByteBuf, Memory>
+    ensures { IfOk result (λ b. b ≡ spec.words_refused at) }
+{
+    let mut out = ByteBuf::new(alloc);
+    let mut buffer = Buffer::new();
+    out.push_slice(b"words refused at ")?;
+    out.push_slice(buffer.format(at).as_bytes())?;
+    out.push(b'\n')?;
     Ok(out)
 }

@@ -1,17 +1,32 @@
-ghost use Rattle.std.specs.Prelude.{◌≡◌, ◌+◌, ◌^◌, ◌-◌, ◌<◌, ◌≤◌, ◌⊎◌, ℕ, List, true, []};
+ghost use Rattle.std.specs.Prelude.{◌≡◌, ◌+◌, ◌^◌, ◌-◌, ◌<◌, ◌≤◌, ◌⊎◌, ℕ, List, true, [], IsSome, IsOk, OnOk, OnErr};
+ghost use Rattle.pv_edge.specs.Rising.{Rose};
 ghost use Rattle.std.specs.Io.KnownBytes.{Appends};
 ghost use Rattle.pv_edge.specs.Sending.{SentInPart};
 ghost use Rattle.pv_cli.specs.Answering as spec;
 ghost use Rattle.pv_cli.specs.Answering.{answer};
-ghost use Rattle.pv_cli.specs.Command.{command};
+ghost use Rattle.pv_cli.specs.Asking.{asked, files_of, place_of};
 ghost use Rattle.pv_cli.specs.Lines.{IsLineOf};
 ghost use Rattle.pv_cli.specs.Running.{IsTold, Puts, WhereTold, is_decided, is_printed, read_size};
 
 use crate::status::Status;
-use crate::words::Words;
 use crate::working::work;
-use pv_edge::{Shelf, Sink, put_all};
+use pv_command::Words;
+use pv_edge::{Failed, Shelf, Sink, put_all};
 use std::alloc::Global;
+
+/// Puts all of the bytes, and nothing where there are none.
+fn print<O: Sink>(out: &mut O, bytes: &[u8]) -> Result<(), Failed>
+    ensures all { OnOk result (Appends (O.took out.old) (O.took out.new) bytes.now) }
+    ensures part { OnErr result (SentInPart (O.took out.old) (O.took out.new) bytes.now) }
+    ensures cause { OnErr result (Rose (O.faults out.old) (O.faults out.new)) }
+    ensures later { O.faults out.old ≤ O.faults out.new }
+    ensures nothing { bytes.now ≡ [] → IsOk result }
+{
+    if bytes.is_empty() {
+        return Ok(());
+    }
+    put_all(out, bytes)
+}
 
 /// Runs the command that the words name. The files come from the shelf, the answer goes to `out`, and
 /// a line that says why there is none goes to `err`.
@@ -39,7 +54,13 @@ pub fn run<F: Shelf, O: Sink, E: Sink>(
         (answer words.now files).line) }
     ensures whole_files { is_printed result ≡ true →
         WhereTold (F.held shelf.old) (λ files.
-        F.given shelf.new ≡ F.given shelf.old + read_size files (command words.now)) }
+        F.given shelf.new ≡ F.given shelf.old + read_size files (files_of (asked words.now))) }
+
+    // Words that are refused are refused before anything is read.
+    ensures words_refused { result ≡ Status.WordsRefused →
+        IsSome (place_of (asked words.now)) × (F.given shelf.new ≡ F.given shelf.old) }
+    ensures words_decide { IsSome (place_of (asked words.now)) →
+        (result ≡ Status.WordsRefused) ⊎ (result ≡ Status.Memory) }
 
     // Why anything else comes.
     ensures read_cause { result ≡ Status.ReadFault →
@@ -61,7 +82,7 @@ pub fn run<F: Shelf, O: Sink, E: Sink>(
         (result ≡ (answer words.now files).status) ⊎ (result ≡ Status.Memory)) }
 
     // The line of each status.
-    ensures line { (text : List ℕ) × IsLineOf (command words.now) result text ×
+    ensures line { (text : List ℕ) × IsLineOf (files_of (asked words.now)) result text ×
         Puts (E.took err.old) (E.took err.new) (E.faults err.old) (E.faults err.new) text }
 
     // The shelf after any answer.
@@ -73,7 +94,7 @@ pub fn run<F: Shelf, O: Sink, E: Sink>(
         let _ = put_all(err, b"out of memory\n");
         return Status::Memory;
     };
-    let Ok(()) = put_all(out, answer.out.as_slice()) else {
+    let Ok(()) = print(out, answer.out.as_slice()) else {
         let _ = put_all(err, b"write failed\n");
         return Status::WriteFault;
     };

@@ -1,58 +1,81 @@
-ghost use Rattle.std.specs.Prelude.{◌≡◌};
-ghost use Rattle.pv_cli.specs.Schemas as spec;
+//! From a schema file's bytes to its plan, or to the answer that refuses it.
 
-use pv_text::Text;
+ghost use Rattle.std.specs.Prelude.{◌≡◌, IfOk, Result, Ok, Err, Some, None, length, codes};
+ghost use Rattle.pv_json_grammar.specs.Values.{document};
+ghost use Rattle.pv_node.specs.declared.Node.{Node};
+ghost use Rattle.pv_schema.specs.Reading.{schema_of};
+ghost use Rattle.pv_cli.specs.Steps.{DecidesBuilt, DecidesSchema, DecidesShape};
+ghost use Rattle.pv_cli.specs.Documents as spec;
+ghost use Rattle.pv_cli.specs.Lines as line;
+
+use crate::answer::Answer;
+use crate::lines;
+use crate::status::Status;
+use pv_json::{ReadFault, read};
+use pv_plan::{BuildFault, Plan, build};
+use pv_schema::{SchemaFault, read_schema};
+use pv_node::Schema;
+use pv_text::{ByteBuf, Memory};
 use pv_tree::Tree;
+use std::alloc::Global;
 
-/// The schemas that are served.
-#[derive(Clone, Copy, Debug, PartialEq, Eq)]
-pub enum Schema {
-    Int,
-    Any,
+/// What a schema file leads to: the plan to validate by, or the answer.
+#[derive(Drop)]
+pub(crate) enum SchemaStep {
+    Served(Plan),
+    Answered(Answer),
 }
 
-fn named(text: &Text) -> Option<Schema>
-    ensures { result ≡ spec.named text.now }
+fn refused(line: ByteBuf, alloc: Global) -> SchemaStep
+    ensures { result ≡ SchemaStep.Answered (spec.refused line Status.SchemaRefused) }
 {
-    match text.as_str() {
-        "int" => Some(Schema::Int),
-        "any" => Some(Schema::Any),
-        _ => None,
-    }
+    SchemaStep::Answered(Answer::refused(alloc, line, Status::SchemaRefused))
 }
 
-fn type_of(tree: &Tree) -> Option<Schema>
-    ensures { result ≡ spec.type_of tree.now }
+fn build_schema(alloc: Global, schema: &Schema) -> Result<SchemaStep, Memory>
+    ensures { IfOk result (DecidesBuilt schema.now) }
 {
-    match tree {
-        Tree::Str(text) => named(text),
-        _ => None,
-    }
-}
-
-fn of_members(members: &[(Text, Tree)]) -> Option<Schema>
-    ensures { result ≡ spec.of_members members.now }
-{
-    match members {
-        [] => None,
-        [(name, value)] => {
-            if name.as_str() == "type" {
-                type_of(value)
-            } else {
-                None
-            }
+    match build(alloc, schema) {
+        Ok(plan) => Ok(SchemaStep::Served(plan)),
+        Err(BuildFault::BadPattern { path }) => {
+            let line = lines::bad_pattern(alloc, &path)?;
+            Ok(refused(line, alloc))
         }
-        [_, _, ..] => None,
+        Err(BuildFault::Memory) => Err(Memory),
     }
 }
 
-/// The schema that a tree is, where it is served.
-#[tactic(auto, unfolding(crate::specs::Schemas::schema_of))]
-pub(crate) fn schema_of(tree: &Tree) -> Option<Schema>
-    ensures { result ≡ spec.schema_of tree.now }
+fn read_shape(alloc: Global, tree: &Tree) -> Result<SchemaStep, Memory>
+    ensures { IfOk result (DecidesShape (schema_of tree.now)) }
 {
-    match tree {
-        Tree::Object(members) => of_members(members.as_slice()),
-        _ => None,
+    match read_schema(alloc, tree) {
+        Ok(schema) => build_schema(alloc, &schema),
+        Err(SchemaFault::Shape { path, code }) => {
+            let line = lines::bad_shape(alloc, code, &path)?;
+            Ok(refused(line, alloc))
+        }
+        Err(SchemaFault::NotYet { .. }) => Ok(SchemaStep::Answered(Answer::not_built(alloc)?)),
+        Err(SchemaFault::TooManyNodes { .. }) => {
+            let line = lines::too_many_nodes(alloc)?;
+            Ok(refused(line, alloc))
+        }
+        Err(SchemaFault::Memory) => Err(Memory),
+    }
+}
+
+pub(crate) fn read_schema_file(alloc: Global, bytes: &[u8]) -> Result<SchemaStep, Memory>
+    ensures { IfOk result (λ step. DecidesSchema (length bytes.now) (document 128 bytes.now) step) }
+{
+    match read(alloc, bytes) {
+        Ok(tree) => read_shape(alloc, &tree),
+        Err(ReadFault::Bad { at }) => {
+            let line = lines::schema_not_json(alloc, at)?;
+            Ok(refused(line, alloc))
+        }
+        Err(ReadFault::End) => {
+            let line = lines::schema_ends_early(alloc)?;
+            Ok(refused(line, alloc))
+        }
+        Err(ReadFault::Memory) => Err(Memory),
     }
 }

@@ -1,57 +1,29 @@
 //! From words and files to the whole answer, before anything is written.
 
-ghost use Rattle.std.specs.Prelude.{◌≡◌, ◌+◌, ◌^◌, ◌-◌, ◌<◌, ◌≤◌, ℕ, List, true, length, Some, IfOk};
+ghost use Rattle.std.specs.Prelude.{◌≡◌, ◌+◌, ◌^◌, ◌-◌, ◌<◌, ◌≤◌, ◌↔◌, ◌≢◌, ℕ, List, true, Some, IsSome, IfOk};
 ghost use Rattle.pv_edge.specs.Files.{file};
-ghost use Rattle.pv_json_grammar.specs.Values.{document};
 ghost use Rattle.pv_cli.specs.Answering as spec;
-ghost use Rattle.pv_cli.specs.Answering.{answer, of_command, of_file};
-ghost use Rattle.pv_cli.specs.Command as words_spec;
+ghost use Rattle.pv_cli.specs.Answering.{answer, of_file, of_files};
+ghost use Rattle.pv_cli.specs.Asking.{asked, files_of, place_of};
 ghost use Rattle.pv_cli.specs.Documents.{of_document};
 ghost use Rattle.pv_cli.specs.Lines.{IsLineOf, IsOutOf};
 ghost use Rattle.pv_cli.specs.Running.{Replies, WhereTold, is_printed, read_size, size_of};
-ghost use Rattle.pv_cli.specs.Steps.{DecidesSchema, IsRefusal};
+ghost use Rattle.pv_cli.specs.Steps.{IsRefusal};
 
 use crate::answer::Answer;
-use crate::command::command;
+use crate::asking::{Asked, read_words};
 use crate::document::answer_document;
 use crate::lines;
-use crate::schema::{Schema, schema_of};
+use crate::schema::{SchemaStep, read_schema_file};
 use crate::status::Status;
-use crate::words::Words;
 use pv_edge::{LoadFault, Shelf, load};
-use pv_json::{ReadFault, read};
+use pv_command::Words;
+use pv_plan::Plan;
 use pv_text::{Memory, Text};
 use std::alloc::Global;
 
 /// How many bytes a file may have.
 pub const LIMIT: u64 = 4_194_304;
-
-/// What a schema file leads to: the schema that is served, or the answer.
-#[derive(Drop)]
-pub(crate) enum SchemaStep {
-    Served(Schema),
-    Answered(Answer),
-}
-
-fn read_schema(alloc: Global, bytes: &[u8]) -> Result<SchemaStep, Memory>
-    ensures { IfOk result (λ step. DecidesSchema (length bytes.now) (document 128 bytes.now) step) }
-{
-    match read(alloc, bytes) {
-        Ok(tree) => match schema_of(&tree) {
-            Some(schema) => Ok(SchemaStep::Served(schema)),
-            None => Ok(SchemaStep::Answered(Answer::not_built(alloc)?)),
-        },
-        Err(ReadFault::Bad { at }) => {
-            let line = lines::schema_not_json(alloc, at)?;
-            Ok(SchemaStep::Answered(Answer::refused(alloc, line, Status::SchemaRefused)))
-        }
-        Err(ReadFault::End) => {
-            let line = lines::schema_ends_early(alloc)?;
-            Ok(SchemaStep::Answered(Answer::refused(alloc, line, Status::SchemaRefused)))
-        }
-        Err(ReadFault::Memory) => Err(Memory),
-    }
-}
 
 /// The answer to a file that was not loaded.
 fn refuse_file(alloc: Global, name: &Text, fault: LoadFault) -> Result<Answer, Memory>
@@ -74,7 +46,8 @@ fn refuse_file(alloc: Global, name: &Text, fault: LoadFault) -> Result<Answer, M
 fn answer_file<F: Shelf>(
     alloc: Global,
     shelf: &mut F,
-    schema: Schema,
+    strict: Option<bool>,
+    plan: &Plan,
     name: &Text,
 ) -> Result<Answer, Memory>
     requires { F.given shelf.old ≤ 2 ^ 63 }
@@ -83,10 +56,11 @@ fn answer_file<F: Shelf>(
     ensures rises { F.given shelf.old ≤ F.given shelf.new }
 
     ensures reply { IfOk result (Replies (F.held shelf.old)
-        (λ files. of_file name.now (of_document schema) (file files name.now))
+        (λ files. of_file name.now (of_document strict plan.now) (file files name.now))
         (F.faults shelf.old) (F.faults shelf.new)) }
     ensures line { IfOk result (λ a. (first : List ℕ) → IsLineOf (Some (first, name.now)) a.status a.line) }
     ensures out { IfOk result (λ a. IsOutOf a.status a.out) }
+    ensures words { IfOk result (λ a. a.status ≢ Status.WordsRefused) }
     ensures large { IfOk result (λ a.
         a.status ≡ Status.TooLarge → F.given shelf.new ≡ F.given shelf.old + spec.limit + 1) }
     ensures whole { IfOk result (λ a.
@@ -95,7 +69,7 @@ fn answer_file<F: Shelf>(
         F.given shelf.new ≡ F.given shelf.old + size_of files name.now)) }
 {
     match load(alloc, shelf, name.as_str(), LIMIT) {
-        Ok(bytes) => answer_document(alloc, schema, bytes.as_slice()),
+        Ok(bytes) => answer_document(alloc, strict, plan, bytes.as_slice()),
         Err(fault) => refuse_file(alloc, name, fault),
     }
 }
@@ -104,6 +78,7 @@ fn answer_file<F: Shelf>(
 fn answer_files<F: Shelf>(
     alloc: Global,
     shelf: &mut F,
+    strict: Option<bool>,
     schema_name: &Text,
     document_name: &Text,
 ) -> Result<Answer, Memory>
@@ -113,10 +88,11 @@ fn answer_files<F: Shelf>(
     ensures rises { F.given shelf.old ≤ F.given shelf.new }
 
     ensures reply { IfOk result (Replies (F.held shelf.old)
-        (λ files. of_command files (Some (schema_name.now, document_name.now)))
+        (λ files. of_files strict files schema_name.now document_name.now)
         (F.faults shelf.old) (F.faults shelf.new)) }
     ensures line { IfOk result (λ a. IsLineOf (Some (schema_name.now, document_name.now)) a.status a.line) }
     ensures out { IfOk result (λ a. IsOutOf a.status a.out) }
+    ensures words { IfOk result (λ a. a.status ≢ Status.WordsRefused) }
     ensures large { IfOk result (λ a.
         a.status ≡ Status.TooLarge → F.given shelf.old + spec.limit + 1 ≤ F.given shelf.new) }
     ensures whole { IfOk result (λ a.
@@ -129,11 +105,11 @@ fn answer_files<F: Shelf>(
         Ok(bytes) => bytes,
         Err(fault) => return refuse_file(alloc, schema_name, fault),
     };
-    let schema = match read_schema(alloc, bytes.as_slice())? {
-        SchemaStep::Served(schema) => schema,
+    let plan = match read_schema_file(alloc, bytes.as_slice())? {
+        SchemaStep::Served(plan) => plan,
         SchemaStep::Answered(answer) => return Ok(answer),
     };
-    answer_file(alloc, shelf, schema, document_name)
+    answer_file(alloc, shelf, strict, &plan, document_name)
 }
 
 /// The whole answer to words, which is made before anything of it is written.
@@ -146,7 +122,7 @@ pub(crate) fn work<F: Shelf>(alloc: Global, words: &Words, shelf: &mut F) -> Res
 
     ensures reply { IfOk result (Replies (F.held shelf.old) (answer words.now)
         (F.faults shelf.old) (F.faults shelf.new)) }
-    ensures line { IfOk result (λ a. IsLineOf (words_spec.command words.now) a.status a.line) }
+    ensures line { IfOk result (λ a. IsLineOf (files_of (asked words.now)) a.status a.line) }
     ensures out { IfOk result (λ a. IsOutOf a.status a.out) }
     ensures large { IfOk result (λ a.
         a.status ≡ Status.TooLarge → F.given shelf.old + spec.limit + 1 ≤ F.given shelf.new) }
@@ -154,10 +130,22 @@ pub(crate) fn work<F: Shelf>(alloc: Global, words: &Words, shelf: &mut F) -> Res
         is_printed a.status ≡ true →
         WhereTold (F.held shelf.old) (λ files.
         F.given shelf.new ≡
-        F.given shelf.old + read_size files (words_spec.command words.now))) }
+        F.given shelf.old + read_size files (files_of (asked words.now)))) }
+    ensures refused { IfOk result (λ a.
+        (a.status ≡ Status.WordsRefused) ↔ IsSome (place_of (asked words.now))) }
+    ensures unread { IfOk result (λ a.
+        a.status ≡ Status.WordsRefused → F.given shelf.new ≡ F.given shelf.old) }
 {
-    let Some((schema_name, document_name)) = command(words.as_slice()) else {
-        return Answer::not_built(alloc);
-    };
-    answer_files(alloc, shelf, schema_name, document_name)
+    match read_words(words) {
+        Asked::Unbuilt => Answer::not_built(alloc),
+        Asked::Misplaced(at) => {
+            let line = lines::words_refused(alloc, at)?;
+            Ok(Answer::refused(alloc, line, Status::WordsRefused))
+        }
+        Asked::Validated {
+            strict,
+            schema,
+            document,
+        } => answer_files(alloc, shelf, strict, schema, document),
+    }
 }

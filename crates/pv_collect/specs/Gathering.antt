@@ -210,4 +210,4 @@ gather_pairs r t ps =
     let os = both_in ps in
     let es = merged_entries (entries_of ps) in
     unless_errors (flat_map pair_errors ps)
-    (measured (length_fault r (length es) (length es)) t (Good (value.Dict es) (least_of (own_grade collection.Dict) (grades_of os)) (sum_of (counts_of os))))
+    (measured (length_fault r (length es) (length es)) t (Good (value.Dict es) (least_of (own_grade r.kind) (grades_of os)) (sum_of (counts_of os))))

@@ -1,5 +1,5 @@
 -- What is held of a collection after some of its parts.
-use Rattle.std.specs.Prelude.{ℕ, ◌+◌, Bool, true, false, not, ◌&&◌, if◌then◌else◌, List, [], ◌∷◌, ◌++◌, length, codes, flat_map, Option, None, Some}
+use Rattle.std.specs.Prelude.{ℕ, ◌+◌, Bool, true, false, not, ◌&&◌, if◌then◌else◌, List, [], ◌∷◌, ◌++◌, length, map, codes, flat_map, Option, None, Some}
 use Rattle.pv_tree.specs.declared.Step.TheVariants.{Name, Index}
 use Rattle.pv_tree.specs.declared.Tree.{Tree}
 use Rattle.pv_tree.specs.declared.Tree.TheOpen.{Tree-F}
@@ -10,7 +10,6 @@ use Rattle.pv_rules.specs.declared.Collection.{Collection}
 use Rattle.pv_rules.specs.declared.Collection.TheVariants as collection
 use Rattle.pv_rules.specs.declared.GatherRule.{GatherRule}
 use Rattle.pv_fault.specs.declared.Grade.{Grade}
-use Rattle.pv_fault.specs.declared.Kind.{Kind}
 use Rattle.pv_fault.specs.declared.LineError.{LineError}
 use Rattle.pv_fault.specs.declared.Outcome.{Outcome}
 use Rattle.pv_fault.specs.declared.Outcome.TheVariants.{Good, Bad}
@@ -35,13 +34,16 @@ pub record Gathered : Type 0 where
   pub entries : List (Value × Value)
   pub tally : Tallied
 
--- whether the parts of a collection are items, and not entries
-abbrev pub is_sequence : Collection → Bool
-is_sequence collection.List = true
-is_sequence collection.Tuple = true
-is_sequence collection.Set = true
-is_sequence collection.Frozen = true
-is_sequence collection.Dict = false
+abbrev pub keys_of : List (Value × Value) → List Value
+keys_of = map (λ e. e.0)
+
+-- the values of a collection of this kind, from those of lists and those of sets
+abbrev pub held : Collection → List Value → List Value → List Value
+held collection.List vs ws = vs
+held collection.Tuple vs ws = vs
+held collection.Set vs ws = ws
+held collection.Frozen vs ws = ws
+held collection.Dict vs ws = vs
 
 abbrev pub items_at : Tree-F Tree → ℕ
 items_at (Tree-F.Array ts) = length ts
@@ -88,7 +90,8 @@ gathered_items r ps = record {
   items = length ps;
   values = kept r.kind (valid_items r.kind ps);
   entries = [];
-  tally = record { errors = items_errors r.kind 0 ps; grade = least_of (own_grade r.kind) (grades_of (outcomes_in ps)); count = sum_of (counts_of (outcomes_in ps)) } }
+  tally = record { errors = items_errors r.kind 0 ps; grade = least_of (own_grade r.kind) (grades_of (outcomes_in ps)); count = sum_of (counts_of (outcomes_in ps)) };
+}
 
 -- What is held after these members of an object.
 unfoldable pub gathered_pairs : GatherRule → List Pair → Gathered
@@ -97,7 +100,8 @@ gathered_pairs r ps = record {
   items = length ps;
   values = [];
   entries = merged_entries (valid_entries ps);
-  tally = record { errors = flat_map pair_errors ps; grade = least_of (own_grade r.kind) (grades_of (both_in ps)); count = sum_of (counts_of (both_in ps)) } }
+  tally = record { errors = flat_map pair_errors ps; grade = least_of (own_grade r.kind) (grades_of (both_in ps)); count = sum_of (counts_of (both_in ps)) };
+}
 
 -- a tally with the grade and the count of one more outcome, and with these errors
 abbrev pub tallied : Tallied → Outcome → List LineError → Tallied
@@ -126,7 +130,8 @@ added_item g t o = record {
   items = g.items + 1;
   values = put_valid g.rule.kind g.values (valid_item g.rule.kind o);
   entries = g.entries;
-  tally = tallied g.tally o (all_under (Index g.items) (item_errors g.rule.kind t o)) }
+  tally = tallied g.tally o (all_under (Index g.items) (item_errors g.rule.kind t o));
+}
 
 -- of a key, and of the value at it
 abbrev pub tallied_pair : Tallied → List ℕ → Outcome → Outcome → Tallied
@@ -139,7 +144,31 @@ added_pair g name k v = record {
   items = g.items + 1;
   values = g.values;
   entries = put_valid_entry g.entries (valid_key k) (valid_value v);
-  tally = tallied_pair g.tally name k v }
+  tally = tallied_pair g.tally name k v;
+}
 
-abbrev pub whole : Tallied → List LineError → Option Kind → Tree → Value → Outcome
-whole t es fault input v = unless_errors (t.errors ++ es) (measured fault input (Good v t.grade t.count))
+-- The outcome from what is held: all errors, else what is wrong with the lengths, else the value.
+abbrev pub closed : GatherRule → Tree → Tallied → Value → ℕ → ℕ → Outcome
+closed r t tally v items kept = unless_errors tally.errors (measured (length_fault r items kept) t (Good v tally.grade tally.count))
+
+abbrev pub with_missing : Tallied → List LineError → Tallied
+with_missing t es = record { errors = t.errors ++ es; grade = t.grade; count = t.count }
+
+unfoldable pub finished_items : Gathered → Tree → Outcome
+finished_items g t =
+    closed g.rule t (with_missing g.tally (missing_of (wanted g.rule (items_in t)) (items_in t) t)) (made_of g.rule.kind g.values) (items_in t) (length g.values)
+
+unfoldable pub finished_pairs : Gathered → Tree → Outcome
+finished_pairs g t = closed g.rule t g.tally (value.Dict g.entries) (length g.entries) (length g.entries)
+
+-- by what the tree is: the members of an object are pairs, and the items of an array are parts
+abbrev pub finished_as : Gathered → Tree → Tree-F Tree → Outcome
+finished_as g t Tree-F.Null = finished_items g t
+finished_as g t (Tree-F.Bool b) = finished_items g t
+finished_as g t (Tree-F.Num lexeme) = finished_items g t
+finished_as g t (Tree-F.Str text) = finished_items g t
+finished_as g t (Tree-F.Array ts) = finished_items g t
+finished_as g t (Tree-F.Object ms) = finished_pairs g t
+
+unfoldable pub finished : Gathered → Tree → Outcome
+finished g t = finished_as g t (out-Tree t)

@@ -1,3 +1,15 @@
+//! Lists, tuples, sets and dicts of what validation gave for their parts.
 #![tactic(auto)]
+
+mod errors;
+mod finishing;
 mod gather;
-pub use gather::{Gather, type_error};
+mod lengths;
+mod merging;
+mod tally;
+
+pub use errors::type_error;
+pub use gather::Gather;
+
+#[cfg(test)]
+mod tests;

@@ -1,5 +1,5 @@
 -- Tests of tokens and of keys, and lists of keys one behind the other: where the wholes are alike, so are the parts.
-use Rattle.std.proofs.Common.{◌≡◌, ◌&&◌, ◌==◌, ℕ, Bool, true, false, List, [], ◌∷◌, ◌++◌, map, refl, sym, ap, ◌∙◌, subst, append_assoc, arith}
+use Rattle.std.proofs.Common.{◌≡◌, ◌&&◌, ℕ, Bool, true, false, List, [], ◌∷◌, ◌++◌, map, refl, sym, ◌∙◌, subst, append_assoc, arith}
 use Rattle.std.specs.List.{AllByRecursion}
 use Rattle.std.specs.declared.cmp.Ordering.{Ordering}
 use Rattle.std.specs.declared.cmp.Ordering.TheVariants.{Less, Equal, Greater}
@@ -14,15 +14,15 @@ use Rattle.pv_equality.specs.Equality.{same_number}
 use Rattle.pv_equality.proofs.Bools.{both, first, second}
 use Rattle.pv_distinct.specs.declared.token.Token.{Token}
 use Rattle.pv_distinct.specs.Tokens.{token_cmp, token_kind, token_number, token_first, token_second, contents_cmp}
-use Rattle.pv_distinct.specs.Keys.{Key, key_cmp, joined}
+use Rattle.pv_distinct.specs.Keys.{KeyTokens, key_cmp, joined}
 
 abbrev pub alike : Token → Token → Bool
 alike = eq_by_cmp token_cmp
 
-abbrev pub alike_keys : Key → Key → Bool
+abbrev pub alike_keys : KeyTokens → KeyTokens → Bool
 alike_keys = pointwise alike
 
-pub keys_compared : (k l : Key) → is_eq (key_cmp k l) ≡ alike_keys k l
+pub keys_compared : (k l : KeyTokens) → is_eq (key_cmp k l) ≡ alike_keys k l
 keys_compared k l = sym (lists_ties token_cmp (λ x y. refl) k l)
 
 then_told : (o p : Ordering) → is_eq (ordering_then o p) ≡ (is_eq o && is_eq p)
@@ -47,13 +47,13 @@ same_nat m n e = grind (arith, nat_tests)
 pub kinds_alike : (t u : Token) → alike t u ≡ true → token_kind t ≡ token_kind u
 kinds_alike t u e = same_nat (token_kind t) (token_kind u) (first (is_eq (nat_cmp (token_kind t) (token_kind u))) _ (sym (token_told t u) ∙ e))
 
-pub joins : (a b r s : Key) → alike_keys a b ≡ true → alike_keys r s ≡ true → alike_keys (a ++ r) (b ++ s) ≡ true
+pub joins : (a b r s : KeyTokens) → alike_keys a b ≡ true → alike_keys r s ≡ true → alike_keys (a ++ r) (b ++ s) ≡ true
 joins [] [] r s h g = g
 joins [] (u ∷ b) r s h g = cc
 joins (t ∷ a) [] r s h g = cc
 joins (t ∷ a) (u ∷ b) r s h g = both (first (alike t u) (alike_keys a b) h) (joins a b r s (second (alike t u) (alike_keys a b) h) g)
 
-pub all_join : (ks ls : List Key) → pointwise alike_keys ks ls ≡ true → alike_keys (joined ks) (joined ls) ≡ true
+pub all_join : (ks ls : List KeyTokens) → pointwise alike_keys ks ls ≡ true → alike_keys (joined ks) (joined ls) ≡ true
 all_join [] [] h = refl
 all_join [] (l ∷ ls) h = cc
 all_join (k ∷ ks) [] h = cc
@@ -61,16 +61,16 @@ all_join (k ∷ ks) (l ∷ ls) h =
     joins k l (joined ks) (joined ls) (first (alike_keys k l) (pointwise alike_keys ks ls) h) (all_join ks ls (second (alike_keys k l) (pointwise alike_keys ks ls) h))
 
 -- a key begins with a kind that p holds of, and what stands behind a list of such keys does not
-abbrev pub Begins : (ℕ → Bool) → Key → Type 0
+abbrev pub Begins : (ℕ → Bool) → KeyTokens → Type 0
 Begins p [] = ⊥
 Begins p (t ∷ ts) = p (token_kind t) ≡ true
 
-abbrev pub Ends : (ℕ → Bool) → Key → Type 0
+abbrev pub Ends : (ℕ → Bool) → KeyTokens → Type 0
 Ends p [] = Unit {0}
 Ends p (t ∷ ts) = p (token_kind t) ≡ false
 
 module _ (p : ℕ → Bool) where
-  clash : (r k s : Key) → Ends p r → Begins p k → alike_keys r (k ++ s) ≡ true → ⊥
+  clash : (r k s : KeyTokens) → Ends p r → Begins p k → alike_keys r (k ++ s) ≡ true → ⊥
   clash r [] s e b h = absurd b
   clash [] (u ∷ k) s e b h = cc
   clash (t ∷ r) (u ∷ k) s e b h =
@@ -78,7 +78,7 @@ module _ (p : ℕ → Bool) where
       let c : p (token_kind u) ≡ false = subst (λ n. p n ≡ false) q e in
       cc
 
-  clash_back : (r k s : Key) → Ends p r → Begins p k → alike_keys (k ++ s) r ≡ true → ⊥
+  clash_back : (r k s : KeyTokens) → Ends p r → Begins p k → alike_keys (k ++ s) r ≡ true → ⊥
   clash_back r [] s e b h = absurd b
   clash_back [] (u ∷ k) s e b h = cc
   clash_back (t ∷ r) (u ∷ k) s e b h =
@@ -87,14 +87,14 @@ module _ (p : ℕ → Bool) where
       cc
 
 -- items with keys: where a key is followed by anything, alike wholes have alike items and alike rests
-module _ {X : Type 0} (code : X → Key) (like : X → X → Bool) (Q : X → Type 0) (p : ℕ → Bool) (begins : (x : X) → Q x → Begins p (code x)) where
+module _ {X : Type 0} (code : X → KeyTokens) (like : X → X → Bool) (Q : X → Type 0) (p : ℕ → Bool) (begins : (x : X) → Q x → Begins p (code x)) where
   abbrev pub Cut : X → Type 0
-  Cut x = (y : X) → Q y → (r s : Key) → alike_keys (code x ++ r) (code y ++ s) ≡ true → (like x y ≡ true) × (alike_keys r s ≡ true)
+  Cut x = (y : X) → Q y → (r s : KeyTokens) → alike_keys (code x ++ r) (code y ++ s) ≡ true → (like x y ≡ true) × (alike_keys r s ≡ true)
 
-  abbrev codes : List X → Key
+  abbrev codes : List X → KeyTokens
   codes xs = joined (map code xs)
 
-  pub cut_list : (xs ys : List X) → AllByRecursion Q xs → AllByRecursion Cut xs → AllByRecursion Q ys → (r s : Key) → Ends p r → Ends p s
+  pub cut_list : (xs ys : List X) → AllByRecursion Q xs → AllByRecursion Cut xs → AllByRecursion Q ys → (r s : KeyTokens) → Ends p r → Ends p s
       → alike_keys (codes xs ++ r) (codes ys ++ s) ≡ true → (pointwise like xs ys ≡ true) × (alike_keys r s ≡ true)
   cut_list [] [] q c g r s e f h = (refl, h)
   cut_list [] (y ∷ ys) q c g r s e f h = absurd (clash p r (code y) (codes ys ++ s) e (begins y g.0) (subst (λ k. alike_keys r k ≡ true) (append_assoc (code y) (codes ys) s) h))

@@ -1,9 +1,8 @@
 -- The key of a value by the shape of its level.
-use Rattle.std.proofs.Common.{◌≡◌, ◌&&◌, ◌==◌, ℕ, Bool, true, false, List, [], ◌∷◌, ◌++◌, map, refl, sym, ap, ◌∙◌, subst, append_assoc, append-nil, arith}
+use Rattle.std.proofs.Common.{◌≡◌, ◌&&◌, ◌==◌, ℕ, Bool, true, false, List, [], ◌∷◌, ◌++◌, map, refl, sym, ◌∙◌, append-nil}
 use Rattle.std.specs.Prelude.{bytes_eq, if◌then◌else◌, nat_lt, pos}
 use Rattle.std.proofs.Math.Bool.{and-true}
 use Rattle.std.specs.Ordering.{is_eq, nat_cmp}
-use lib.Pointwise.{pointwise}
 use Rattle.pv_number.specs.ExactNumber.{Number, number}
 use Rattle.pv_number.specs.NumberEquality.{int_number}
 use Rattle.pv_tree.specs.declared.Value.{Value, map-Value}
@@ -18,7 +17,7 @@ use Rattle.pv_equality.proofs.Shapes.{Shape, Part, shape, same_own, lone, pair, 
 use Rattle.pv_distinct.specs.declared.token.Token.{Token}
 use Rattle.pv_distinct.specs.declared.token.Token.TheVariants as token
 use Rattle.pv_distinct.specs.Tokens.{token_kind, token_number, token_first, token_second, atom_mark}
-use Rattle.pv_distinct.specs.Keys.{Key, key, key_at, joined, ordered, set_key, item_key, entry_key, field_key}
+use Rattle.pv_distinct.specs.Keys.{KeyTokens, key, key_at, joined, set_key, item_key, entry_key, field_key}
 use Rattle.pv_distinct.proofs.Cutting.{alike, token_told}
 
 abbrev pub own : Value-F Value → Token
@@ -38,16 +37,16 @@ own (Value-F.Dict es) = token.Dict
 own (Value-F.Model cls fs set es) = token.Model cls
 own (Value-F.Root cls v) = token.Root cls
 
-abbrev pub part_key : Part Value → Key
+abbrev pub part_key : Part Value → KeyTokens
 part_key p = joined (map key p.1) ++ token.Name p.0 ∷ []
 
-abbrev pub parts_key : List (Part Value) → Key
+abbrev pub parts_key : List (Part Value) → KeyTokens
 parts_key ps = set_key (map part_key ps)
 
-abbrev pub inside_key : Shape Value → Key
+abbrev pub inside_key : Shape Value → KeyTokens
 inside_key s = joined (map key s.items) ++ (joined (map parts_key s.sets) ++ token.End ∷ [])
 
-abbrev pub rest_key : Shape Value → Key
+abbrev pub rest_key : Shape Value → KeyTokens
 rest_key s = if nat_lt s.kind 5 then [] else inside_key s
 
 lones : (vs : List Value) → map item_key (map key vs) ≡ map part_key (map lone vs)
@@ -62,11 +61,11 @@ nameds : (fs : List (List ℕ × Value)) → map field_key (map (λ f. (f.0, key
 nameds [] = refl
 nameds (f ∷ fs) = λ i. (sym (append-nil (key f.1)) i ++ token.Name f.0 ∷ []) ∷ nameds fs i
 
-one_inside : (k : Key) → k ++ token.End ∷ [] ≡ (k ++ []) ++ token.End ∷ []
+one_inside : (k : KeyTokens) → k ++ token.End ∷ [] ≡ (k ++ []) ++ token.End ∷ []
 one_inside k = λ i. sym (append-nil k) i ++ token.End ∷ []
 
-abbrev keyed : Value-F Value → Value-F Key
-keyed = map-Value Value Key key
+abbrev keyed : Value-F Value → Value-F KeyTokens
+keyed = map-Value Value KeyTokens key
 
 level : (x : Value-F Value) → key_at (keyed x) ≡ own x ∷ rest_key (shape x)
 level Value-F.None = refl
@@ -88,7 +87,7 @@ level (Value-F.Model cls fs set es) = λ i. token.Model cls ∷ (
 level (Value-F.Root cls v) = λ i. token.Root cls ∷ one_inside (key v) i
 
 pub key_level : (x : Value-F Value) → key (roll-Value x) ≡ own x ∷ rest_key (shape x)
-key_level x = fold-roll-Value Key key_at x ∙ level x
+key_level x = fold-roll-Value KeyTokens key_at x ∙ level x
 
 -- the own tokens of two levels are alike where the shapes have the same own part
 abbrev pub zero_number : Number

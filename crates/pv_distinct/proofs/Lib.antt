@@ -5,3 +5,4 @@ pub mod Levels
 pub mod Telling
 pub mod Appending
 pub mod Sightings
+pub mod Entries

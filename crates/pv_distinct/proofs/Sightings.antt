@@ -4,18 +4,17 @@ use Rattle.std.specs.Prelude.{Option, None, Some, is_some}
 use Rattle.std.specs.List.{position_from, list_any}
 use Rattle.std.specs.declared.cmp.Ordering.TheVariants.{Equal}
 use Rattle.std.specs.Ordering.{is_eq}
-use Rattle.std.specs.BTreeMap.{BTreeMap, get, btree_map_len, Updates, is_at}
+use Rattle.std.specs.BTreeMap.{get, btree_map_len, Updates}
 use Rattle.std.proofs.lemmas.Cmp.{eq_by_cmp_equiv}
 use Rattle.pv_tree.specs.declared.Value.{Value}
 use Rattle.pv_equality.specs.Equality.{same}
 use Rattle.pv_equality.specs.Merging.{put_item}
 use Rattle.pv_equality.proofs.Bools.{same_test}
 use Rattle.pv_equality.proofs.Levels.{same_symm}
-use Rattle.pv_distinct.specs.Keys.{Key, key, key_cmp}
+use Rattle.pv_distinct.specs.Keys.{KeyTokens, key, key_cmp}
 use Rattle.pv_distinct.specs.TokenOrder.{keys_total}
 use Rattle.pv_distinct.specs.Sightings.{IsSeen, place_at, place_of}
 use Rattle.pv_distinct.specs.declared.seen.Seen.{Seen}
-use Rattle.pv_distinct.specs.declared.seen.Place.{Place}
 use Rattle.pv_distinct.proofs.Ordering.{equal_told}
 use Rattle.pv_distinct.proofs.Telling.{keys_tell}
 
@@ -52,7 +51,7 @@ module _ {X : Type 0} (t : X → Bool) where
   some_at true i j xs f h = refl
   some_at false i j xs f h = f h
 
-  some_any : (i j : ℕ) (xs : List X) → position_from t i xs ≡ Some j → list_any t xs ≡ true
+  pub some_any : (i j : ℕ) (xs : List X) → position_from t i xs ≡ Some j → list_any t xs ≡ true
   some_any i j [] h = cc
   some_any i j (x ∷ xs) h = some_at (t x) i j xs (some_any (i + 1) j xs) h
 
@@ -61,7 +60,7 @@ module _ {X : Type 0} (t : X → Bool) where
   none_at true i xs f h = cc
   none_at false i xs f h = f h
 
-  none_any : (i : ℕ) (xs : List X) → position_from t i xs ≡ None → list_any t xs ≡ false
+  pub none_any : (i : ℕ) (xs : List X) → position_from t i xs ≡ None → list_any t xs ≡ false
   none_any i [] h = refl
   none_any i (x ∷ xs) h = none_at (t x) i xs (none_any (i + 1) xs) h
 
@@ -79,10 +78,10 @@ module _ (s : Seen) (kept : List Value) (v : Value) (h : IsSeen s kept) where
   kept_old i e = subst (λ b. IsSeen s (cond b kept (kept ++ v ∷ []))) (sym (some_any (λ w. same w v) 0 i kept (sym position_told ∙ e))) h
 
   module _ (e : get key_cmp s.places (key v) ≡ None) (n : Seen) (u : Updates key_cmp s.places n.places (key v) (Some (btree_map_len s.places))) where
-    alike_at : (k : Key) → key_cmp (key v) k ≡ Equal → get key_cmp s.places k ≡ None
+    alike_at : (k : KeyTokens) → key_cmp (key v) k ≡ Equal → get key_cmp s.places k ≡ None
     alike_at k q = h.found k ∙ (λ i. position_from (λ w. is_eq (sym (keys_total.congr (key v) k (key w) q) i)) 0 kept) ∙ sym (h.found (key v)) ∙ e
 
-    found_at : (b : Bool) (k : Key) → is_eq (key_cmp (key v) k) ≡ b
+    found_at : (b : Bool) (k : KeyTokens) → is_eq (key_cmp (key v) k) ≡ b
         → cond b (Some (btree_map_len s.places)) (get key_cmp s.places k) ≡ or_else (position_from (λ w. is_eq (key_cmp k (key w))) 0 kept) (cond b (Some (0 + length kept)) None)
     found_at true k q =
         (λ i. Some (last i))
@@ -92,7 +91,7 @@ module _ (s : Seen) (kept : List Value) (v : Value) (h : IsSeen s kept) where
         last = omega (arith, h.counted)
     found_at false k q = h.found k ∙ sym (or_none (position_from (λ w. is_eq (key_cmp k (key w))) 0 kept))
 
-    found_new : (k : Key) → get key_cmp n.places k ≡ position_from (λ w. is_eq (key_cmp k (key w))) 0 (kept ++ v ∷ [])
+    found_new : (k : KeyTokens) → get key_cmp n.places k ≡ position_from (λ w. is_eq (key_cmp k (key w))) 0 (kept ++ v ∷ [])
     found_new k =
         u.0 k ∙ found_at (is_eq (key_cmp (key v) k)) k refl
         ∙ sym (one_more (λ w. is_eq (key_cmp k (key w))) 0 kept v
@@ -107,7 +106,7 @@ module _ (s : Seen) (kept : List Value) (v : Value) (h : IsSeen s kept) where
         length_last xs = simp length-append refl
 
   -- the same, as an insertion says it
-  pub kept_added : (n : Seen) (k : Key) (m : ℕ) (o : Option ℕ) → get key_cmp s.places (key v) ≡ None → k ≡ key v → m ≡ btree_map_len s.places
+  pub kept_added : (n : Seen) (k : KeyTokens) (m : ℕ) (o : Option ℕ) → get key_cmp s.places (key v) ≡ None → k ≡ key v → m ≡ btree_map_len s.places
       → Updates key_cmp s.places n.places k (Some m) → o ≡ get key_cmp s.places k → btree_map_len n.places ≡ btree_map_len s.places + cond (is_some o) 0 1 → IsSeen n (put_item kept v)
   kept_added n k m o e p q u f c =
       let u1 : Updates key_cmp s.places n.places (key v) (Some m) = subst (λ l. Updates key_cmp s.places n.places l (Some m)) p u in

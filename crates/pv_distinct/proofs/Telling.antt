@@ -1,11 +1,9 @@
 -- Two values are the same exactly where their keys are alike.
-use Rattle.std.proofs.Common.{◌≡◌, ◌&&◌, ◌==◌, ◌⊎◌, inl, inr, ℕ, Bool, true, false, List, [], ◌∷◌, ◌++◌, map, refl, sym, ap, ◌∙◌, subst, append_assoc, append-nil, arith}
-use Rattle.std.specs.Prelude.{bytes_eq, if◌then◌else◌, nat_lt, pos, fold}
+use Rattle.std.proofs.Common.{◌≡◌, ◌&&◌, ◌==◌, inl, inr, ℕ, Bool, true, false, List, [], ◌∷◌, ◌++◌, map, refl, sym, ap, ◌∙◌, subst, append_assoc, append-nil, arith}
+use Rattle.std.specs.Prelude.{bytes_eq, if◌then◌else◌, nat_lt}
 use Rattle.std.specs.List.{AllByRecursion}
-use Rattle.std.specs.BTreeSet.{insert_key}
-use Rattle.std.specs.declared.cmp.Ordering.TheVariants.{Less, Equal, Greater}
+use Rattle.std.specs.declared.cmp.Ordering.TheVariants.{Equal}
 use Rattle.std.specs.Ordering.{is_eq, eq_by_cmp}
-use Rattle.std.specs.Cmp.{IsTotalOrder}
 use Rattle.std.proofs.lemmas.Bool.Decides.{nat_tests}
 use Rattle.std.proofs.lemmas.Cmp.{alike_right}
 use Rattle.std.proofs.Math.Bool.{and-true}
@@ -13,18 +11,16 @@ use lib.Pointwise.{pointwise}
 use Rattle.pv_tree.specs.declared.Value.{Value}
 use Rattle.pv_tree.specs.declared.Value.TheOpen.{Value-F}
 use Rattle.pv_tree.specs.declared.Value.TheViews.{roll-Value}
-use Rattle.pv_equality.specs.Equality.{same, mutual_inclusion, same_number}
-use Rattle.pv_equality.proofs.Numbers.{numbers_equiv}
+use Rattle.pv_equality.specs.Equality.{same, mutual_inclusion}
 use Rattle.pv_equality.proofs.Bools.{both, first, second, same_test}
 use Rattle.pv_equality.proofs.Inclusion.{In, at, each, each_so, Included, told, tell}
 use Rattle.pv_equality.proofs.Shapes.{Shape, Part, shape, same_shape, same_part, same_own, same_inside, AllWithin}
 use Rattle.pv_equality.proofs.Levels.{same_by_shapes, by_shapes}
-use Rattle.pv_distinct.specs.declared.token.Token.{Token}
 use Rattle.pv_distinct.specs.declared.token.Token.TheVariants as token
 use Rattle.pv_distinct.specs.Tokens.{token_kind}
 use Rattle.pv_distinct.specs.TokenOrder.{keys_total}
-use Rattle.pv_distinct.specs.Keys.{Key, key, key_cmp, joined, ordered, set_key}
-use Rattle.pv_distinct.proofs.Ordering.{Ascends, equal_told, all_ordered, ascends, has, same_lists, like_among, like_back}
+use Rattle.pv_distinct.specs.Keys.{KeyTokens, key, key_cmp, joined, ordered}
+use Rattle.pv_distinct.proofs.Ordering.{equal_told, all_ordered, ascends, has, same_lists, like_among, like_back}
 use Rattle.pv_distinct.proofs.Cutting.{alike, alike_keys, token_told, keys_compared, kinds_alike, joins, all_join, Begins, Ends, cut_list}
 use Rattle.pv_distinct.proofs.Levels.{none_told, own, own_told, own_kind, key_level, part_key, parts_key, inside_key, rest_key}
 
@@ -33,7 +29,7 @@ abbrev Forth : Value → Type 0
 Forth v = (w : Value) → same v w ≡ true → alike_keys (key v) (key w) ≡ true
 
 abbrev Back : Value → Type 0
-Back v = (w : Value) (r s : Key) → alike_keys (key v ++ r) (key w ++ s) ≡ true → (same v w ≡ true) × (alike_keys r s ≡ true)
+Back v = (w : Value) (r s : KeyTokens) → alike_keys (key v ++ r) (key w ++ s) ≡ true → (same v w ≡ true) × (alike_keys r s ≡ true)
 
 abbrev Tells : Value → Type 0
 Tells v = Forth v × Back v
@@ -91,7 +87,7 @@ items_forth [] (w ∷ ws) a h = cc
 items_forth (v ∷ vs) [] a h = cc
 items_forth (v ∷ vs) (w ∷ ws) a h = both (a.0.0 w (first (same v w) (pointwise same vs ws) h)) (items_forth vs ws a.1 (second (same v w) (pointwise same vs ws) h))
 
-items_back : (vs ws : List Value) → AllByRecursion Tells vs → (r s : Key) → Ends starts_value r → Ends starts_value s
+items_back : (vs ws : List Value) → AllByRecursion Tells vs → (r s : KeyTokens) → Ends starts_value r → Ends starts_value s
     → alike_keys (joined (map key vs) ++ r) (joined (map key ws) ++ s) ≡ true → (pointwise same vs ws ≡ true) × (alike_keys r s ≡ true)
 items_back vs ws a = cut_list key same (λ _. Unit {0}) starts_value key_begins vs ws (all_units vs) (each_so Tells (λ v t w _. t.1 w) vs a) (all_units ws)
 
@@ -105,7 +101,7 @@ part_forth p q a h =
     (all_join (map key p.1) (map key q.1) (items_forth p.1 q.1 a (second (bytes_eq p.0 q.0) (pointwise same p.1 q.1) h)))
     (both (name_alike p.0 q.0 ∙ first (bytes_eq p.0 q.0) (pointwise same p.1 q.1) h) refl)
 
-part_back : (p q : Part Value) → TellsPart p → (r s : Key) → alike_keys (part_key p ++ r) (part_key q ++ s) ≡ true → (same_part same p q ≡ true) × (alike_keys r s ≡ true)
+part_back : (p q : Part Value) → TellsPart p → (r s : KeyTokens) → alike_keys (part_key p ++ r) (part_key q ++ s) ≡ true → (same_part same p q ≡ true) × (alike_keys r s ≡ true)
 part_back p q a r s h =
     let h1 : alike_keys (joined (map key p.1) ++ token.Name p.0 ∷ r) (joined (map key q.1) ++ token.Name q.0 ∷ s) ≡ true
     = sym (λ i. alike_keys (append_assoc (joined (map key p.1)) (token.Name p.0 ∷ []) r i) (append_assoc (joined (map key q.1)) (token.Name q.0 ∷ []) s i)) ∙ h in
@@ -117,12 +113,12 @@ items_begin : (vs : List Value) (n : List ℕ) → Begins starts_part (joined (m
 items_begin [] n = refl
 items_begin (v ∷ vs) n = begin (key v) (joined (map key vs)) (key_begins v tt)
   where
-    begin : (k l : Key) → Begins starts_value k → Begins starts_part ((k ++ l) ++ token.Name n ∷ [])
+    begin : (k l : KeyTokens) → Begins starts_value k → Begins starts_part ((k ++ l) ++ token.Name n ∷ [])
     begin [] l b = absurd b
     begin (t ∷ k) l b = below (token_kind t) b
 
 -- sets of parts
-abbrev IsPart : List (Part Value) → Key → Type 0
+abbrev IsPart : List (Part Value) → KeyTokens → Type 0
 IsPart ps k = (p : Part Value) × In p ps × (part_key p ≡ k)
 
 parts_of : (ps : List (Part Value)) → AllByRecursion (IsPart ps) (map part_key ps)
@@ -137,22 +133,22 @@ in_map [] p i = absurd i
 in_map (q ∷ ps) p (inl e) = inl (ap part_key e)
 in_map (q ∷ ps) p (inr i) = inr (in_map ps p i)
 
-abbrev keys_of : List (Part Value) → List Key
+abbrev keys_of : List (Part Value) → List KeyTokens
 keys_of ps = ordered (map part_key ps)
 
 from_parts : (ps : List (Part Value)) → AllByRecursion (IsPart ps) (keys_of ps)
 from_parts ps = all_ordered key_cmp (IsPart ps) [] (map part_key ps) tt (parts_of ps)
 
-alike_tests : (ks ls : List Key) → pointwise (eq_by_cmp key_cmp) ks ls ≡ pointwise alike_keys ks ls
+alike_tests : (ks ls : List KeyTokens) → pointwise (eq_by_cmp key_cmp) ks ls ≡ pointwise alike_keys ks ls
 alike_tests ks ls = λ i. pointwise (λ k l. keys_compared k l i) ks ls
 
-abbrev IsKey : Key → Type 0
+abbrev IsKey : KeyTokens → Type 0
 IsKey k = (p : Part Value) × (part_key p ≡ k)
 
-key_of_part_begins : (k : Key) → IsKey k → Begins starts_part k
+key_of_part_begins : (k : KeyTokens) → IsKey k → Begins starts_part k
 key_of_part_begins k p = subst (Begins starts_part) p.1 (items_begin p.0.1 p.0.0)
 
-map_same : (ks : List Key) → map (λ k. k) ks ≡ ks
+map_same : (ks : List KeyTokens) → map (λ k. k) ks ≡ ks
 map_same [] = refl
 map_same (k ∷ ks) = ap (λ ls. k ∷ ls) (map_same ks)
 
@@ -201,15 +197,15 @@ module _ (ps : List (Part Value)) (a : AllByRecursion TellsPart ps) (qs : List (
             (p.0, p.1, alike_parts p.0 q p.1 (subst (λ z. alike_keys z (part_key q) ≡ true) (sym p.2) (sym (keys_compared k.0 (part_key q)) ∙ ap is_eq e)));
       }
 
-  cut_parts : (k : Key) → IsPart ps k → (l : Key) → IsKey l → (r s : Key) → alike_keys (k ++ r) (l ++ s) ≡ true → (alike_keys k l ≡ true) × (alike_keys r s ≡ true)
+  cut_parts : (k : KeyTokens) → IsPart ps k → (l : KeyTokens) → IsKey l → (r s : KeyTokens) → alike_keys (k ++ r) (l ++ s) ≡ true → (alike_keys k l ≡ true) × (alike_keys r s ≡ true)
   cut_parts k p l q r s h =
       let c = part_back p.0 q.0 (at TellsPart ps p.0 a p.1) r s ((λ i. alike_keys (p.2 i ++ r) (q.1 i ++ s)) ∙ h) in
       (sym (λ i. alike_keys (p.2 i) (q.1 i)) ∙ part_forth p.0 q.0 (at TellsPart ps p.0 a p.1) c.0, c.1)
 
-  behind : (ls : List Key) (r : Key) → (joined ls ++ token.End ∷ []) ++ r ≡ joined (map (λ k. k) ls) ++ token.End ∷ r
+  behind : (ls : List KeyTokens) (r : KeyTokens) → (joined ls ++ token.End ∷ []) ++ r ≡ joined (map (λ k. k) ls) ++ token.End ∷ r
   behind ls r = append_assoc (joined ls) (token.End ∷ []) r ∙ (λ i. joined (sym (map_same ls) i) ++ token.End ∷ r)
 
-  parts_back : (r s : Key) → alike_keys (parts_key ps ++ r) (parts_key qs ++ s) ≡ true → (mutual_inclusion (same_part same) ps qs ≡ true) × (alike_keys r s ≡ true)
+  parts_back : (r s : KeyTokens) → alike_keys (parts_key ps ++ r) (parts_key qs ++ s) ≡ true → (mutual_inclusion (same_part same) ps qs ≡ true) × (alike_keys r s ≡ true)
   parts_back r s h =
       let g : alike_keys (joined (map (λ k. k) (keys_of ps)) ++ token.End ∷ r) (joined (map (λ k. k) (keys_of qs)) ++ token.End ∷ s) ≡ true
       = sym (λ i. alike_keys (behind (keys_of ps) r i) (behind (keys_of qs) s i))
@@ -229,14 +225,14 @@ sets_forth (s ∷ ss) (t ∷ ts) a h =
     both (parts_forth s a.0 t (first (mutual_inclusion (same_part same) s t) (pointwise (mutual_inclusion (same_part same)) ss ts) h))
     (sets_forth ss ts a.1 (second (mutual_inclusion (same_part same) s t) (pointwise (mutual_inclusion (same_part same)) ss ts) h))
 
-sets_back : (ss ts : List (List (Part Value))) → AllByRecursion (AllByRecursion TellsPart) ss → (r s : Key) → Ends starts_parts r → Ends starts_parts s
+sets_back : (ss ts : List (List (Part Value))) → AllByRecursion (AllByRecursion TellsPart) ss → (r s : KeyTokens) → Ends starts_parts r → Ends starts_parts s
     → alike_keys (joined (map parts_key ss) ++ r) (joined (map parts_key ts) ++ s) ≡ true → (pointwise (mutual_inclusion (same_part same)) ss ts ≡ true) × (alike_keys r s ≡ true)
 sets_back ss ts a =
     cut_list parts_key (mutual_inclusion (same_part same)) (λ _. Unit {0}) starts_parts (λ ps _. refl) ss ts (all_units ss)
     (each_so (AllByRecursion TellsPart) (λ ps b qs _ r s. parts_back ps b qs r s) ss a) (all_units ts)
 
 -- what stands inside a level
-sets_end : (ss : List (List (Part Value))) (r : Key) → Ends starts_value (joined (map parts_key ss) ++ token.End ∷ r)
+sets_end : (ss : List (List (Part Value))) (r : KeyTokens) → Ends starts_value (joined (map parts_key ss) ++ token.End ∷ r)
 sets_end [] r = refl
 sets_end (s ∷ ss) r = refl
 
@@ -248,12 +244,12 @@ inside_forth s t a h =
     (all_join (map parts_key s.sets) (map parts_key t.sets) (sets_forth s.sets t.sets a.1 (second (pointwise same s.items t.items) (pointwise (mutual_inclusion (same_part same)) s.sets t.sets) h)))
     (both end_alike refl))
 
-inside_whole : (s : Shape Value) (r : Key) → inside_key s ++ r ≡ joined (map key s.items) ++ (joined (map parts_key s.sets) ++ token.End ∷ r)
+inside_whole : (s : Shape Value) (r : KeyTokens) → inside_key s ++ r ≡ joined (map key s.items) ++ (joined (map parts_key s.sets) ++ token.End ∷ r)
 inside_whole s r =
     append_assoc (joined (map key s.items)) (joined (map parts_key s.sets) ++ token.End ∷ []) r
     ∙ (λ i. joined (map key s.items) ++ append_assoc (joined (map parts_key s.sets)) (token.End ∷ []) r i)
 
-inside_back : (s t : Shape Value) → AllWithin Tells s → (q r : Key) → alike_keys (inside_key s ++ q) (inside_key t ++ r) ≡ true → (same_inside same s t ≡ true) × (alike_keys q r ≡ true)
+inside_back : (s t : Shape Value) → AllWithin Tells s → (q r : KeyTokens) → alike_keys (inside_key s ++ q) (inside_key t ++ r) ≡ true → (same_inside same s t ≡ true) × (alike_keys q r ≡ true)
 inside_back s t a q r h =
     let g = sym (λ i. alike_keys (inside_whole s q i) (inside_whole t r i)) ∙ h in
     let k = items_back s.items t.items a.0 (joined (map parts_key s.sets) ++ token.End ∷ q) (joined (map parts_key t.sets) ++ token.End ∷ r) (sets_end s.sets q) (sets_end t.sets r) g in
@@ -284,7 +280,7 @@ leaves_inside x y h g =
     let l = leaf_empty y g in
     λ i. pointwise same (k.0 i) (l.0 i) && pointwise (mutual_inclusion (same_part same)) (k.1 i) (l.1 i)
 
-abbrev rest_at : Bool → Shape Value → Key
+abbrev rest_at : Bool → Shape Value → KeyTokens
 rest_at b s = if b then [] else inside_key s
 
 rests_forth : (b c : Bool) (s t : Shape Value) → b ≡ c → AllWithin Tells s → same_inside same s t ≡ true → alike_keys (rest_at b s) (rest_at c t) ≡ true
@@ -293,7 +289,7 @@ rests_forth true false s t e a h = cc
 rests_forth false true s t e a h = cc
 rests_forth false false s t e a h = inside_forth s t a h
 
-rests_back : (b c : Bool) (s t : Shape Value) → b ≡ c → AllWithin Tells s → (b ≡ true → c ≡ true → same_inside same s t ≡ true) → (q r : Key)
+rests_back : (b c : Bool) (s t : Shape Value) → b ≡ c → AllWithin Tells s → (b ≡ true → c ≡ true → same_inside same s t ≡ true) → (q r : KeyTokens)
     → alike_keys (rest_at b s ++ q) (rest_at c t ++ r) ≡ true → (same_inside same s t ≡ true) × (alike_keys q r ≡ true)
 rests_back true true s t e a f q r h = (f refl refl, h)
 rests_back true false s t e a f q r h = cc
@@ -314,7 +310,7 @@ module _ (x : Value-F Value) (a : AllWithin Tells (shape x)) (y : Value-F Value)
       (λ i. alike_keys (key_level x i) (key_level y i))
       ∙ both o (rests_forth (is_leaf x) (is_leaf y) (shape x) (shape y) (leaves_alike x y o) a (second (same_own (shape x) (shape y)) (same_inside same (shape x) (shape y)) g))
 
-  level_back : (r s : Key) → alike_keys (key (roll-Value x) ++ r) (key (roll-Value y) ++ s) ≡ true → (same (roll-Value x) (roll-Value y) ≡ true) × (alike_keys r s ≡ true)
+  level_back : (r s : KeyTokens) → alike_keys (key (roll-Value x) ++ r) (key (roll-Value y) ++ s) ≡ true → (same (roll-Value x) (roll-Value y) ≡ true) × (alike_keys r s ≡ true)
   level_back r s h =
       let g : alike_keys (own x ∷ (rest_key (shape x) ++ r)) (own y ∷ (rest_key (shape y) ++ s)) ≡ true = sym (λ i. alike_keys (key_level x i ++ r) (key_level y i ++ s)) ∙ h in
       let o : alike (own x) (own y) ≡ true = first (alike (own x) (own y)) (alike_keys (rest_key (shape x) ++ r) (rest_key (shape y) ++ s)) g in
@@ -328,7 +324,7 @@ rolled P f = by_shapes P (λ x _. f x)
 tells : (v : Value) → Tells v
 tells = by_shapes Tells (λ x a. (
   rolled (λ w. same (roll-Value x) w ≡ true → alike_keys (key (roll-Value x)) (key w) ≡ true) (level_forth x a),
-  rolled (λ w. (r s : Key) → alike_keys (key (roll-Value x) ++ r) (key w ++ s) ≡ true → (same (roll-Value x) w ≡ true) × (alike_keys r s ≡ true)) (level_back x a),
+  rolled (λ w. (r s : KeyTokens) → alike_keys (key (roll-Value x) ++ r) (key w ++ s) ≡ true → (same (roll-Value x) w ≡ true) × (alike_keys r s ≡ true)) (level_back x a),
 ))
 
 pub keys_tell : (v w : Value) → is_eq (key_cmp (key v) (key w)) ≡ same v w

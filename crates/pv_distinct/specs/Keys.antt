@@ -9,34 +9,34 @@ use Rattle.pv_distinct.specs.declared.token.Token.{Token}
 use Rattle.pv_distinct.specs.declared.token.Token.TheVariants as token
 use Rattle.pv_distinct.specs.Tokens.{token_cmp}
 
-abbrev pub Key : Type 0
-Key = List Token
+abbrev pub KeyTokens : Type 0
+KeyTokens = List Token
 
-abbrev pub key_cmp : Key → Key → Ordering
+abbrev pub key_cmp : KeyTokens → KeyTokens → Ordering
 key_cmp = slice_cmp token_cmp
 
-abbrev pub joined : List Key → Key
+abbrev pub joined : List KeyTokens → KeyTokens
 joined [] = []
 joined (k ∷ ks) = k ++ joined ks
 
 -- the keys in their order, of equal ones the first
-abbrev pub ordered : List Key → List Key
+abbrev pub ordered : List KeyTokens → List KeyTokens
 ordered ks = fold (insert_key key_cmp) [] ks
 
 -- an item, an entry or a field, behind which its name stands
-abbrev pub item_key : Key → Key
+abbrev pub item_key : KeyTokens → KeyTokens
 item_key k = k ++ token.Name [] ∷ []
 
-abbrev pub entry_key : Key × Key → Key
+abbrev pub entry_key : KeyTokens × KeyTokens → KeyTokens
 entry_key e = (e.0 ++ e.1) ++ token.Name [] ∷ []
 
-abbrev pub field_key : List ℕ × Key → Key
+abbrev pub field_key : List ℕ × KeyTokens → KeyTokens
 field_key f = f.1 ++ token.Name f.0 ∷ []
 
-abbrev pub set_key : List Key → Key
+abbrev pub set_key : List KeyTokens → KeyTokens
 set_key ks = token.Open ∷ (joined (ordered ks) ++ token.End ∷ [])
 
-abbrev pub key_at : Value-F Key → Key
+abbrev pub key_at : Value-F KeyTokens → KeyTokens
 key_at Value-F.None = token.None ∷ []
 key_at (Value-F.Bool b) = token.Int (pos (if b then 1 else 0)) ∷ []
 key_at (Value-F.Int n) = token.Int n ∷ []
@@ -53,5 +53,5 @@ key_at (Value-F.Dict es) = token.Dict ∷ (set_key (map entry_key es) ++ token.E
 key_at (Value-F.Model cls fs set es) = token.Model cls ∷ ((set_key (map field_key fs) ++ set_key (map field_key es)) ++ token.End ∷ [])
 key_at (Value-F.Root cls k) = token.Root cls ∷ (k ++ token.End ∷ [])
 
-abbrev pub key : Value → Key
-key = fold-Value Key key_at
+abbrev pub key : Value → KeyTokens
+key = fold-Value KeyTokens key_at

@@ -9,5 +9,5 @@ mod seen;
 mod tests;
 mod token;
 
-pub use laws::keys_tell_values;
+pub use laws::{keys_tell_values, places_tell_what_is_kept};
 pub use seen::{Place, Seen};

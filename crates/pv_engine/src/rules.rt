@@ -84,7 +84,7 @@ impl<
         requires nests { Nests self.now.table.now self.now.run self.now.depth (F.pre self.now.below) (F.post self.now.below) }
         ensures { IfOk result (λ o. o ≡ gives.sequence_at rule.now (spec.first (map (run_table self.now.table.now self.now.run self.now.depth) children.now)) tree.now (Tree-F.Array items.now)) }
     {
-        let mut gather = Gather::new(self.alloc, rule)?;
+        let mut gather = Gather::new(self.alloc, rule);
         for item in items {
             let outcome = self.first(children, item)?;
             gather = gather.item(outcome, item)?;
@@ -152,7 +152,7 @@ impl<
         requires nests { Nests self.now.table.now self.now.run self.now.depth (F.pre self.now.below) (F.post self.now.below) }
         ensures { IfOk result (λ o. o ≡ gives.tuple_at rule.now (map (run_table self.now.table.now self.now.run self.now.depth) children.now) tree.now (Tree-F.Array items.now)) }
     {
-        let mut gather = Gather::new(self.alloc, rule)?;
+        let mut gather = Gather::new(self.alloc, rule);
         let count = items.len() as u64;
         for (place, item) in items.iter().enumerate() {
             let Some(number) = self.taker(rule, children, count, place as u64) else {
@@ -213,7 +213,7 @@ impl<
             (spec.second (map (run_table self.now.table.now self.now.run self.now.depth) children.now))
             tree.now (Tree-F.Object members.now)) }
     {
-        let mut gather = Gather::new(self.alloc, rule)?;
+        let mut gather = Gather::new(self.alloc, rule);
         for (name, value) in members {
             gather = self.member(children, gather, name, value)?;
         }

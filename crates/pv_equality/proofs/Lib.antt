@@ -7,3 +7,4 @@ pub mod Inclusion
 pub mod Equivalence
 pub mod Shapes
 pub mod Levels
+pub mod Merging

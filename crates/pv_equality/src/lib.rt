@@ -9,5 +9,5 @@ mod sameness;
 mod tests;
 
 pub use hashability::hashable;
-pub use laws::sameness_is_equivalence;
+pub use laws::{entries_come_one_by_one, items_come_one_by_one, sameness_is_equivalence};
 pub use sameness::same;

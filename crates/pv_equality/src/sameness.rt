@@ -152,8 +152,10 @@ fn is_set(values: &[Value], other: &Value) -> bool
 
 /// Whether two values are equal. Flags, whole numbers and lexemes are equal where their exact numbers are, a
 /// set and a frozen set where each item of one has an equal among those of the other, and models whichever of
-/// their fields were given. It takes no memory; sets and dicts take time in proportion to the product of their
-/// lengths, twice at each level.
+/// their fields were given.
+///
+/// It takes no memory. So two sets or dicts take time in proportion to the product of their lengths, and each
+/// level of sets within sets doubles it. To find equals among many values, make a key of each once.
 #[cycle(same)]
 pub fn same(a: &Value, b: &Value) -> bool
     ensures { result ≡ spec.same a.now b.now }

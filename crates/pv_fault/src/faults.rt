@@ -73,6 +73,16 @@ impl Faults {
         Ok(())
     }
 
+    /// Moves the errors of `more` to the end.
+    pub fn append(&mut self, more: Faults) -> Result<(), Memory>
+        ensures ok { OnOk result (self.new ≡ self.old ++ more) }
+        ensures err { OnErr result (self.new ≡ self.old) }
+    {
+        let Faults { errors: mut more } = more;
+        self.errors.append(&mut more)?;
+        Ok(())
+    }
+
     /// Keeps the first `len` errors.
     pub fn cut(&mut self, len: usize)
         requires { len ≤ length self.old }

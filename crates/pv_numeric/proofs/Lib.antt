@@ -1,4 +1,4 @@
-mod Wholes
+pub mod Wholes
 mod Digits
 mod Products
-mod Numerals
+pub mod Numerals

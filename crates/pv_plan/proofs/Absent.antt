@@ -1,9 +1,9 @@
 -- What stands for an absent schema.
-use Rattle.std.proofs.Common.{◌≡◌, ℕ, ◌+◌, false, List, [], ◌∷◌, Option, Some, None, unwrap_or, refl, ap, sym, ◌∙◌}
+use Rattle.std.proofs.Common.{◌≡◌, ℕ, ◌+◌, false, List, [], ◌∷◌, None, unwrap_or, ap, sym, ◌∙◌}
 use Rattle.std.specs.List.{flat_map}
 use Rattle.pv_rules.specs.Settings.{plain}
 use Rattle.pv_rules.specs.declared.ScalarRule.TheVariants as rule
-use Rattle.pv_node.specs.declared.Node.{Node, out-Node, out-roll-Node}
+use Rattle.pv_node.specs.declared.Node.{Node, out-roll-Node}
 use Rattle.pv_node.specs.declared.Body.{out-Body, out-roll-Body}
 use Rattle.pv_node.specs.declared.Body.TheVariants as body
 use Rattle.pv_node.specs.declared.Body.TheVariants.{rolls-Scalar}

@@ -1,5 +1,5 @@
 -- The first bad pattern of a schema, by those of its child schemas.
-use Rattle.std.proofs.Common.{◌≡◌, ℕ, ◌+◌, ◌<◌, Bool, true, false, if◌then◌else◌, List, [], ◌∷◌, map, length, drop, get_or, refl, ap, sym, ◌∙◌, Option, Some, None}
+use Rattle.std.proofs.Common.{◌≡◌, ℕ, ◌+◌, ◌<◌, Bool, true, false, if◌then◌else◌, List, [], ◌∷◌, map, length, drop, get_or, refl, ap, sym, ◌∙◌, Option, Some, None, is_some, true≢false}
 use Rattle.std.proofs.lemmas.List.{at_drop_more}
 use Rattle.pv_node.specs.declared.Node.{Node, rec-roll-Node, roll-out-Node, out-Node, roll-Node, rec-Node}
 use Rattle.pv_node.specs.declared.Body.{Body, rec-roll-Body, roll-out-Body, out-Body, roll-Body, rec-Body, map-Body}
@@ -7,7 +7,10 @@ use Rattle.pv_node.specs.declared.Body.TheOpen.{Body-F, Node-F}
 use Rattle.pv_node.specs.Preorder.{body_of}
 use Rattle.pv_tree.specs.declared.Step.TheVariants.{Name, Index}
 use Rattle.std.specs.Prelude.{codes}
-use Rattle.pv_plan.specs.BadPatterns.{Path, Search, bad_pattern, search_in, body_step, node_step, in_body, in_positions, in_slot, first_of, behind, rule_is_bad}
+use Rattle.pv_plan.specs.BadPatterns.{Path, Search, bad_pattern, body_step, node_step, in_body, in_positions, first_of, behind, rule_is_bad}
+use Rattle.pv_plan.specs.declared.faults.BuildFault.{BuildFault}
+use Rattle.pv_plan.specs.declared.faults.BuildFault.TheVariants as fault
+use Rattle.pv_plan.specs.Faults.{FailsBy}
 use Rattle.pv_plan.specs.Searching.{in_itself, in_children}
 
 positions : {Y : Type 0} (v : Y → Node) (k : Node → Option Path) (i : ℕ) (ys : List Y) → in_positions (λ y. k (v y)) i ys ≡ in_positions k i (map v ys)
@@ -55,6 +58,26 @@ search_opens n =
     ∙ ap (λ b. (rec-Body Search Search body_step node_step b).path) (sym (roll-out-Body (out-Node n).body))
     ∙ found_in_body (out-Body (out-Node n).body)
     ∙ split (out-Body (out-Node n).body)
+
+-- what is found in the child schemas is all, since what is bad in itself has none
+only_inner : (b : Body-F Body Node) (path : Path) → in_children bad_pattern b ≡ Some path → first_of (in_itself b) (in_children bad_pattern b) ≡ Some path
+only_inner (Body-F.Scalar r) path e = absurd (true≢false (sym (ap is_some e)))
+only_inner (Body-F.Sequence r items) path e = e
+only_inner (Body-F.Tuple r items) path e = e
+only_inner (Body-F.Dict r keys values) path e = e
+only_inner (Body-F.Nullable n) path e = e
+
+pub inner_fails : (n : Node) (e : BuildFault) → FailsBy e (in_children bad_pattern (body_of n)) → FailsBy e (bad_pattern n)
+inner_fails n fault.Memory h = tt
+inner_fails n (fault.BadPattern path) h = search_opens n ∙ only_inner (body_of n) path h
+
+first_alone : (a : Option Path) → first_of a None ≡ a
+first_alone None = refl
+first_alone (Some path) = refl
+
+-- nothing is found in the child schemas
+pub itself_alone : (n : Node) → in_children bad_pattern (body_of n) ≡ None → bad_pattern n ≡ in_itself (body_of n)
+itself_alone n e = search_opens n ∙ ap (first_of (in_itself (body_of n))) e ∙ first_alone (in_itself (body_of n))
 
 -- past a position where no pattern is bad
 pub positions_more : (all : List Node) (i : ℕ) (x : Node) (whole : Option Path) → i < length all → x ≡ get_or all i x

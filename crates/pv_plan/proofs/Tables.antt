@@ -1,7 +1,7 @@
 -- Tables grow at their ends.
-use Rattle.std.proofs.Common.{◌≡◌, ℕ, zero, suc, ◌+◌, ◌-◌, ◌<◌, ◌≤◌, Bool, false, List, [], ◌∷◌, ◌++◌, map, length, take, drop, get_or, slice_set, Option, Some, None, refl, ap, sym, ◌∙◌, arith}
+use Rattle.std.proofs.Common.{◌≡◌, ℕ, suc, ◌+◌, ◌-◌, ◌<◌, false, List, [], ◌∷◌, ◌++◌, map, length, take, get_or, slice_set, Option, Some, None, refl, ap, sym, ◌∙◌, arith}
 use Rattle.std.specs.List.{flat_map}
-use Rattle.std.proofs.lemmas.List.{take_more, flat_map_more, length-append, append-nil, append_assoc, set-append_right, map-append}
+use Rattle.std.proofs.lemmas.List.{take_more, flat_map_more, length-append, append-nil, append_assoc, set-append_right}
 use Rattle.std.proofs.lemmas.Grind.{flat_map-append}
 use Rattle.pv_rules.specs.Settings.{plain}
 use Rattle.pv_rules.specs.declared.GatherRule.{GatherRule}
@@ -69,22 +69,18 @@ module _ (last : ℕ) where
       g ∙ ap (λ t. slice_set t (length old) s) whole ∙ set-append_right old _ (length old) (length old) s refl (omega arith)
       ∙ ap (λ k. old ++ slice_set (r ∷ table_from last (length old + 1) ns) k s) here
 
-  abbrev record_of : Op → List ℕ → Bool → Record
-  record_of o cs strict = record { op = o; children = cs; strict = strict; validate_default = false }
-
   -- a node and all that is inside it
-  pub laid : (old mid table new : List Record) (at : ℕ) (r : Record) (n : Node) (o : Op) (cs : List ℕ) (strict : Bool) → at ≡ length old
-      → mid ≡ old ++ r ∷ [] → table ≡ mid ++ table_from last (length mid) (flat_map preorder (parts n))
-      → o ≡ op_at (body_of n) → cs ≡ numbers last (length mid) (slots_at (body_of n)) → strict ≡ own_strict n
-      → new ≡ slice_set table at (record { op = o; children = cs; strict = strict; validate_default = false }) → new ≡ old ++ table_from last (length old) (preorder n)
+  pub laid : (old mid table new : List Record) (at : ℕ) (r : Record) (n : Node) (cs : List ℕ) → at ≡ length old
+      → mid ≡ old ++ r ∷ [] → table ≡ mid ++ table_from last (length mid) (flat_map preorder (parts n)) → cs ≡ numbers last (length mid) (slots_at (body_of n))
+      → new ≡ slice_set table at (record { op = op_at (body_of n); children = cs; strict = own_strict n; validate_default = false })
+      → new ≡ old ++ table_from last (length old) (preorder n)
   unfolding table_from
-  laid old mid table new at r n o cs strict place e f does num own g =
+  laid old mid table new at r n cs place e f num g =
       let size : length mid ≡ length old + 1 = ap length e ∙ length-append old (r ∷ []) in
+      let with : List ℕ → Record = λ ks. record { op = op_at (body_of n); children = ks; strict = own_strict n; validate_default = false } in
       let inner = flat_map preorder (parts n) in
-      filled old mid table new r (record_of o cs strict) inner e f (g ∙ ap (λ k. slice_set table k (record_of o cs strict)) place)
-      ∙ ap (λ p. old ++ record_of p cs strict ∷ table_from last (length old + 1) inner) does
-      ∙ ap (λ ks. old ++ record_of (op_at (body_of n)) ks strict ∷ table_from last (length old + 1) inner) (num ∙ ap (λ k. numbers last k (slots_at (body_of n))) size)
-      ∙ ap (λ b. old ++ record_of (op_at (body_of n)) (numbers last (length old + 1) (slots_at (body_of n))) b ∷ table_from last (length old + 1) inner) own
+      filled old mid table new r (with cs) inner e f (g ∙ ap (λ k. slice_set table k (with cs)) place)
+      ∙ ap (λ ks. old ++ with ks ∷ table_from last (length old + 1) inner) (num ∙ ap (λ k. numbers last k (slots_at (body_of n))) size)
       ∙ ap (λ ns. old ++ table_from last (length old) ns) (sym (opens n))
 
   numbers_push : (at : ℕ) (ns : List Node) (n : Node) → numbers last at (map Some (ns ++ n ∷ [])) ≡ numbers last at (map Some ns) ++ (at + nodes_count ns) ∷ []

@@ -1,5 +1,5 @@
 -- What building a plan says of the first bad pattern.
-use Rattle.std.specs.Prelude.{◌≡◌, List, [], ◌∷◌, ◌++◌, Option, None, Some, Result, Ok, Err}
+use Rattle.std.specs.Prelude.{◌≡◌, ◌++◌, Option, None, Some, Result, Ok, Err}
 use Rattle.pv_plan.specs.BadPatterns.{Path}
 use Rattle.pv_plan.specs.declared.faults.BuildFault.{BuildFault}
 use Rattle.pv_plan.specs.declared.faults.BuildFault.TheVariants as fault

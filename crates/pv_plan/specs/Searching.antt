@@ -1,5 +1,5 @@
 -- The search for a bad pattern, in the node itself and then in its child schemas.
-use Rattle.std.specs.Prelude.{List, [], ◌∷◌, codes, if◌then◌else◌, Option, None, Some}
+use Rattle.std.specs.Prelude.{[], ◌∷◌, codes, if◌then◌else◌, Option, None, Some}
 use Rattle.pv_tree.specs.declared.Step.TheVariants.{Name}
 use Rattle.pv_rules.specs.declared.ScalarRule.{ScalarRule}
 use Rattle.pv_node.specs.declared.Body.TheOpen.{Body-F}

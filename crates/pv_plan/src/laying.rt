@@ -1,15 +1,15 @@
 //! The records of nodes, laid one after another.
 
-ghost use Rattle.std.specs.Prelude.{◌≡◌, [], ◌∷◌, ◌++◌, length, map, codes, IfOk, OnOk};
+ghost use Rattle.std.specs.Prelude.{◌≡◌, ◌<◌, false, [], ◌∷◌, ◌++◌, length, map, slice_set, codes, IfOk, OnOk};
 ghost use Rattle.std.specs.List.{flat_map};
 ghost use Rattle.pv_tree.specs.declared.Step.TheVariants.{Name, Index};
 ghost use Rattle.pv_node.specs.declared.Body.{out-Body};
-ghost use Rattle.pv_node.specs.Preorder.{preorder, parts_at, optional};
-ghost use Rattle.pv_plan.specs.Records.{slots_at};
+ghost use Rattle.pv_node.specs.Preorder.{preorder, body_of, parts_at, optional};
+ghost use Rattle.pv_plan.specs.Records.{op_at, slots_at, own_strict};
 ghost use Rattle.pv_plan.specs.Layout.{numbers, table_from};
 ghost use Rattle.pv_plan.specs.BadPatterns as spec;
 ghost use Rattle.pv_plan.specs.Faults.{Finds};
-ghost use Rattle.pv_plan.specs.Searching.{in_children};
+ghost use Rattle.pv_plan.specs.Searching.{in_itself, in_children};
 
 use crate::faults::{BuildFault, under_key, under_position};
 use crate::operations::operation;
@@ -31,14 +31,46 @@ pub(crate) fn number(place: usize) -> Result<u32, Memory>
     }
 }
 
-/// What stands for a node until its children are laid.
-fn vacant(alloc: Global) -> Record {
-    Record {
+/// A place for the record of a node whose children are still to be laid. Big values stay out of
+/// the frames of the recursion, here and in [`settle`].
+#[inline(never)]
+fn reserve(alloc: Global, table: &mut Items<Record>) -> Result<(), Memory>
+    ensures { OnOk result (table.new ≡ table.old ++ record { op = Op.Nullable; children = []; strict = false; validate_default = false } ∷ []) }
+{
+    table.push(Record {
         op: Op::Nullable,
         children: Items::new(alloc),
         strict: false,
         validate_default: false,
-    }
+    })?;
+    Ok(())
+}
+
+/// Puts the record of a node in its place.
+#[inline(never)]
+fn settle(
+    alloc: Global,
+    table: &mut Items<Record>,
+    at: usize,
+    node: &Node,
+    children: Items<u32>,
+) -> Result<(), BuildFault>
+    requires { at < length table.old }
+    ensures table { OnOk result (table.new ≡ slice_set table.old at (record { op = op_at (body_of node.now); children = children; strict = own_strict node.now; validate_default = false })) }
+    ensures pattern { Finds result (in_itself (body_of node.now)) }
+{
+    let op = operation(alloc, &node.body)?;
+    let strict = node.strict.unwrap_or(false);
+    table.set(
+        at,
+        Record {
+            op,
+            children,
+            strict,
+            validate_default: false,
+        },
+    );
+    Ok(())
 }
 
 fn one(alloc: Global, number: u32) -> Result<Items<u32>, Memory>
@@ -58,33 +90,26 @@ fn two(alloc: Global, first: u32, second: u32) -> Result<Items<u32>, Memory>
     Ok(all)
 }
 
-/// Lays a node and all inside it. `last` is the number of what stands for absent schemas.
+/// Lays a node and all inside it, and gives its number. `last` is the number of what stands for
+/// absent schemas.
 #[cycle(lay)]
-#[tactic(auto, using(crate::proofs::Openings::search_opens))]
+#[tactic(auto, using(crate::proofs::Openings::inner_fails, crate::proofs::Openings::itself_alone))]
 pub(crate) fn lay(
     alloc: Global,
     table: &mut Items<Record>,
     last: u32,
     node: &Node,
-) -> Result<(), BuildFault>
+) -> Result<u32, BuildFault>
     ensures table { OnOk result (table.new ≡ table.old ++ table_from last (length table.old) (preorder node.now)) }
+    ensures number { IfOk result (λ n. n ≡ length table.old) }
     ensures pattern { Finds result (spec.bad_pattern node.now) }
 {
     let at = table.len();
-    let op = operation(alloc, &node.body)?;
-    table.push(vacant(alloc))?;
+    let own = number(at)?;
+    reserve(alloc, table)?;
     let children = lay_children(alloc, table, last, &node.body)?;
-    let strict = node.strict.unwrap_or(false);
-    table.set(
-        at,
-        Record {
-            op,
-            children,
-            strict,
-            validate_default: false,
-        },
-    );
-    Ok(())
+    settle(alloc, table, at, node, children)?;
+    Ok(own)
 }
 
 /// Lays the child schemas of a node, and gives their numbers.
@@ -143,8 +168,8 @@ fn lay_slot(
     match slot {
         None => Ok(last),
         Some(node) => {
-            let at = lay_inner(alloc, table, last, key, node.get())?;
-            Ok(at)
+            let number = lay_inner(alloc, table, last, key, node.get())?;
+            Ok(number)
         }
     }
 }
@@ -163,9 +188,8 @@ fn lay_inner(
     ensures number { IfOk result (λ n. n ≡ length table.old) }
     ensures pattern { Finds result (spec.behind (Name key.now ∷ []) (spec.bad_pattern node.now)) }
 {
-    let at = number(table.len())?;
     match lay(alloc, table, last, node) {
-        Ok(()) => Ok(at),
+        Ok(number) => Ok(number),
         Err(fault) => Err(under_key(alloc, fault, key)),
     }
 }
@@ -184,9 +208,8 @@ fn lay_position(
     ensures number { IfOk result (λ n. n ≡ length table.old) }
     ensures pattern { Finds result (spec.behind (Name (codes "items_schema") ∷ Index position ∷ []) (spec.bad_pattern node.now)) }
 {
-    let at = number(table.len())?;
     match lay(alloc, table, last, node) {
-        Ok(()) => Ok(at),
+        Ok(number) => Ok(number),
         Err(fault) => Err(under_position(alloc, fault, position)),
     }
 }
@@ -206,7 +229,8 @@ fn lay_positions(
 {
     let mut all = Items::new(alloc);
     for (position, node) in nodes.iter().enumerate() {
-        all.push(lay_position(alloc, table, last, position as u64, node)?)?;
+        let number = lay_position(alloc, table, last, position as u64, node)?;
+        all.push(number)?;
     }
     Ok(all)
 }

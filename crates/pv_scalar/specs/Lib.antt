@@ -8,3 +8,4 @@ pub mod Scalars
 pub mod Places
 pub mod TestRules
 pub mod Bodies
+pub mod WrittenInts

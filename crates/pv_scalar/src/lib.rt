@@ -8,6 +8,7 @@ mod enums;
 mod flags;
 mod formats;
 mod integers;
+mod laws;
 mod listing;
 mod literals;
 mod places;
@@ -18,5 +19,6 @@ mod texts;
 mod validation;
 
 pub use built::Scalar;
+pub use laws::{ints_of_texts_are_numerals, strict_ints_are_written};
 pub use pv_formats::{Pattern, PatternFault, compile_pattern};
 pub use validation::scalar;

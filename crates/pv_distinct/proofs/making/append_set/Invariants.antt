@@ -1,4 +1,4 @@
-use Rattle.std.proofs.Common.{◌≡◌, [], ◌∷◌, ◌++◌}
+use Rattle.std.proofs.Common.{◌≡◌, ◌∷◌, ◌++◌}
 use Rattle.pv_distinct.specs.Keys.{joined}
 use Rattle.pv_distinct.specs.declared.token.Token.TheVariants as token
 use Rattle.pv_distinct.proofs.making.append_set.Given as goal

@@ -5,8 +5,8 @@ use Rattle.pv_plan.proofs.laying.+lay.Goals as goal
 
 pub lay-returns-clause-table : goal.lay-returns-clause-table
 lay-returns-clause-table t c =
-    laid c.args.last c.args.table.now _ _ _ _ _ c.args.node.now _ _ _ c.len-at.ensures c.in_ok-push.ensures.ok c.in_ok-children.ensures.table
-    c.in_ok-op.ensures.value c.in_ok-children.ensures.numbers c.unwrap_or-strict.ensures c.set.ensures
+    laid c.args.last c.args.table.now _ _ _ _ _ c.args.node.now _ c.len-at.ensures c.in_ok-reserve.ensures c.in_ok-children.ensures.table
+    c.in_ok-children.ensures.numbers c.in_ok-settle.ensures.table
 
 pub lay_children-returns-in_ok-two-in-Dict-clause-table : goal.lay_children-returns-in_ok-two-in-Dict-clause-table
 lay_children-returns-in_ok-two-in-Dict-clause-table t c =
@@ -21,8 +21,8 @@ lay_children-returns-in_ok-two-in-Dict-clause-numbers t c =
 pub lay_positions-loop-position-preserved : goal.lay_positions-loop-position-preserved
 lay_positions-loop-position-preserved t c = record {
   table = laid_more c.args.last c.args.table.now c.loop-position.table _ c.args.nodes.now c.loop-position.position c.index-nodes-position.result (omega arith) c.index-nodes-position.is
-      c.loop-position.invariant.table c.in_ok-lay_position.ensures.table;
+      c.loop-position.invariant.table c.in_ok-number.ensures.table;
   numbers = numbers_more c.args.last (length c.args.table.now) _ _ _ c.args.nodes.now c.loop-position.position c.index-nodes-position.result (omega arith) c.index-nodes-position.is
-      (c.in_ok-lay_position.ensures.number ∙ length_laid c.args.last c.args.table.now c.loop-position.table _ c.loop-position.invariant.table) c.loop-position.invariant.numbers c.in_ok-push.ensures.ok;
-  pattern = positions_more c.args.nodes.now c.loop-position.position c.index-nodes-position.result _ (omega arith) c.index-nodes-position.is c.in_ok-lay_position.ensures.pattern c.loop-position.invariant.pattern;
+      (c.in_ok-number.ensures.number ∙ length_laid c.args.last c.args.table.now c.loop-position.table _ c.loop-position.invariant.table) c.loop-position.invariant.numbers c.in_ok-push.ensures.ok;
+  pattern = positions_more c.args.nodes.now c.loop-position.position c.index-nodes-position.result _ (omega arith) c.index-nodes-position.is c.in_ok-number.ensures.pattern c.loop-position.invariant.pattern;
 }

@@ -1,7 +1,7 @@
-use Rattle.std.proofs.Common.{◌≡◌, ◌∙◌, sym, rules}
+use Rattle.std.proofs.Common.{◌∙◌, sym}
 use Rattle.std.specs.Prelude.{None, Some}
 use Rattle.std.specs.BTreeMap.{get}
-use Rattle.pv_distinct.specs.Keys.{key, key_cmp}
+use Rattle.pv_distinct.specs.Keys.{key_cmp}
 use Rattle.pv_distinct.specs.declared.seen.Seen.{Seen}
 use Rattle.pv_distinct.proofs.Sightings.{place_told, kept_old, kept_added}
 use Rattle.pv_distinct.proofs.seen.Seen.place.Goals as goal

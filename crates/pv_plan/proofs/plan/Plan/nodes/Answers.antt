@@ -1,5 +1,4 @@
-use Rattle.std.proofs.Common.{◌≡◌, ◌+◌, arith}
-use Rattle.pv_node.specs.Preorder.{node_count}
+use Rattle.std.proofs.Common.{arith}
 use Rattle.pv_plan.proofs.Tables.{counted}
 use Rattle.pv_plan.proofs.plan.Plan.nodes.Goals as goal
 

@@ -1,4 +1,4 @@
-use Rattle.std.proofs.Common.{◌≡◌, ◌∙◌, ◌<◌, ap, sym, length, slice_get, refl, arith}
+use Rattle.std.proofs.Common.{◌∙◌, ◌<◌, ap, sym, length, slice_get, refl, arith}
 use Rattle.std.proofs.lemmas.Option.{slice_get_read}
 use Rattle.pv_plan.specs.Layout.{table_of}
 use Rattle.pv_plan.proofs.Tables.{counted}

@@ -1,0 +1,4 @@
+pub mod Positions
+pub mod Merges
+pub mod Held
+pub mod Ends

@@ -1,0 +1,84 @@
+ghost use Rattle.std.specs.Prelude.{◌≡◌, ◌++◌, [], ◌∷◌, IfOk, OnOk};
+ghost use Rattle.pv_collect.specs.Gathering as spec;
+
+use pv_fault::{Faults, Kind, LineError, Outcome};
+use pv_rules::Collection;
+use pv_text::{Memory, Text};
+use pv_tree::{Loc, Step, Tree};
+use std::alloc::Global;
+
+/// The error of an input that is no array, or for a dict no object.
+pub fn type_error(kind: Collection) -> Kind
+    ensures { result ≡ spec.type_error kind }
+{
+    match kind {
+        Collection::List => Kind::ListType,
+        Collection::Tuple => Kind::TupleType,
+        Collection::Set => Kind::SetType,
+        Collection::Frozen => Kind::FrozenSetType,
+        Collection::Dict => Kind::DictType,
+    }
+}
+
+/// An error at the place itself.
+pub(crate) fn error_here(alloc: Global, kind: Kind, input: Tree) -> LineError
+    ensures { result ≡ spec.error_here kind input }
+{
+    LineError {
+        kind,
+        loc: Loc::new(alloc),
+        input,
+    }
+}
+
+pub(crate) fn only_error(alloc: Global, kind: Kind, input: &Tree) -> Result<Outcome, Memory>
+    ensures { IfOk result (λ o. o ≡ Outcome.Bad (spec.error_here kind input.now ∷ [])) }
+{
+    let mut errors = Faults::new(alloc);
+    errors.push(error_here(alloc, kind, input.share(alloc)?))?;
+    Ok(Outcome::Bad(errors))
+}
+
+/// The name of a collection in a message.
+pub(crate) fn field_type(alloc: Global, kind: Collection) -> Result<Text, Memory>
+    ensures { IfOk result (λ t. t ≡ spec.field_type kind) }
+{
+    match kind {
+        Collection::List => Text::from_str(alloc, "List"),
+        Collection::Tuple => Text::from_str(alloc, "Tuple"),
+        Collection::Set => Text::from_str(alloc, "Set"),
+        Collection::Frozen => Text::from_str(alloc, "Frozenset"),
+        Collection::Dict => Text::from_str(alloc, "Dictionary"),
+    }
+}
+
+fn push_missing(alloc: Global, errors: &mut Faults, place: u64, input: &Tree) -> Result<(), Memory>
+    ensures { OnOk result (errors.new ≡ errors.old ++ spec.missing_from place 1 input.now) }
+{
+    let mut loc = Loc::new(alloc);
+    loc.push(Step::Index(place))?;
+    errors.push(LineError {
+        kind: Kind::Missing,
+        loc,
+        input: input.share(alloc)?,
+    })
+}
+
+/// An error for each of the positions that no item has.
+pub(crate) fn push_all_missing(
+    alloc: Global,
+    errors: &mut Faults,
+    wanted: Option<u64>,
+    items: u64,
+    input: &Tree,
+) -> Result<(), Memory>
+    ensures { OnOk result (errors.new ≡ errors.old ++ spec.missing_of wanted items input.now) }
+{
+    let Some(wanted) = wanted else {
+        return Ok(());
+    };
+    for more in 0..wanted.saturating_sub(items) {
+        push_missing(alloc, errors, items + more, input)?;
+    }
+    Ok(())
+}

@@ -1,0 +1,115 @@
+//! Runs worked rows in memory and prints what each leaves. A row is a line: the words, the schema
+//! file `S` and the document file `D`, with a tab between two of them.
+#![tactic(auto)]
+
+ghost use Rattle.std.specs.Prelude.{◌≡◌, IfOk};
+
+use pv_cli::{Words, run};
+use pv_edge::{MemShelf, MemSink, PutFault};
+use pv_text::{Bytes, Memory, Text};
+use std::alloc::Global;
+use std::io;
+
+/// How many bytes an answer may have.
+const ROOM: usize = 100_000;
+
+/// A row for which there is no memory.
+#[derive(Drop)]
+struct NoRow;
+
+impl From<Memory> for NoRow {
+    fn from(_e: Memory) -> NoRow {
+        NoRow
+    }
+}
+
+impl From<PutFault> for NoRow {
+    fn from(_e: PutFault) -> NoRow {
+        NoRow
+    }
+}
+
+fn words_of(alloc: Global, all: &str) -> Result<Words, NoRow> {
+    let mut words = Words::new(alloc);
+    for word in all.split(' ') {
+        words.push(word)?;
+    }
+    Ok(words)
+}
+
+/// A shelf with the files `S` and `D`.
+fn shelf_of(alloc: Global, schema: &str, document: &str) -> Result<MemShelf, NoRow>
+    ensures given { IfOk result (λ shelf. shelf.given ≡ 0) }
+    ensures faults { IfOk result (λ shelf. shelf.faults ≡ 0) }
+{
+    let mut shelf = MemShelf::new(alloc, 4096);
+    shelf.put(
+        Text::from_str(alloc, "S")?,
+        Bytes::from_slice(alloc, schema.as_bytes())?,
+    )?;
+    shelf.put(
+        Text::from_str(alloc, "D")?,
+        Bytes::from_slice(alloc, document.as_bytes())?,
+    )?;
+    Ok(shelf)
+}
+
+fn sink_of(alloc: Global) -> Result<MemSink, NoRow>
+    ensures { IfOk result (λ sink. sink.faults ≡ 0) }
+{
+    Ok(MemSink::new(alloc, 4096, ROOM)?)
+}
+
+/// The text of bytes that are one, and none where they are not.
+fn shown(bytes: &[u8]) -> &str {
+    match str::from_utf8(bytes) {
+        Ok(text) => text.trim_end(),
+        Err(_) => "",
+    }
+}
+
+/// What a run leaves: its status, and what stands on the two streams.
+#[derive(Drop)]
+struct Left {
+    status: u8,
+    out: MemSink,
+    err: MemSink,
+}
+
+fn run_row(alloc: Global, words: &str, schema: &str, document: &str) -> Result<Left, NoRow> {
+    let words = words_of(alloc, words)?;
+    let mut shelf = shelf_of(alloc, schema, document)?;
+    let mut out = sink_of(alloc)?;
+    let mut err = sink_of(alloc)?;
+    let status = run(alloc, &words, &mut shelf, &mut out, &mut err).code();
+    Ok(Left { status, out, err })
+}
+
+fn print_row(rt: &HostRuntime, words: &str, schema: &str, document: &str) -> io::Result<()> {
+    match run_row(rt.alloc(), words, schema, document) {
+        Ok(left) => {
+            let status = left.status;
+            let printed = shown(left.out.taken());
+            let line = shown(left.err.taken());
+            println!(rt; "{status} {printed}{line}")
+        }
+        Err(NoRow) => println!(rt; "out of memory"),
+    }
+}
+
+fn main(rt: HostRuntime) -> io::Result<()> {
+    for line in rt.lines(rt.alloc()) {
+        let line = line?;
+        let row = line.as_str();
+        let Some((words, files)) = row.split_once('\t') else {
+            println!(rt; "{row}")?;
+            continue;
+        };
+        let Some((schema, document)) = files.split_once('\t') else {
+            println!(rt; "{row}")?;
+            continue;
+        };
+        print_row(&rt, words, schema, document)?;
+    }
+    Ok(())
+}
