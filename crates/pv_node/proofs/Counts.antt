@@ -1,5 +1,5 @@
 -- Nodes counted part by part.
-use Rattle.std.proofs.Common.{◌≡◌, ℕ, ◌+◌, List, [], ◌∷◌, ◌++◌, length, refl, ap, sym, ◌∙◌, add-one, length-append, arith, drop}
+use Rattle.std.proofs.Common.{◌≡◌, ◌+◌, List, [], ◌∷◌, ◌++◌, length, ap, length-append, arith}
 use Rattle.std.specs.List.{flat_map}
 use Rattle.pv_node.specs.declared.node.Node.{Node, out-Node}
 use Rattle.pv_node.specs.declared.node.Body.{out-Body}

@@ -1,10 +1,10 @@
 -- The nodes of a schema, by the nodes of its child schemas.
-use Rattle.std.proofs.Common.{◌≡◌, ℕ, List, [], ◌∷◌, ◌++◌, map, refl, ap, sym, ◌∙◌, Option, Some, None}
+use Rattle.std.proofs.Common.{◌≡◌, List, [], ◌∷◌, ◌++◌, map, refl, ap, sym, ◌∙◌, Some, None}
 use Rattle.std.specs.List.{flat_map}
 use Rattle.pv_node.specs.declared.node.Node.{Node, rec-roll-Node, roll-out-Node, out-Node, roll-Node, rec-Node}
 use Rattle.pv_node.specs.declared.node.Body.{Body, rec-roll-Body, roll-out-Body, out-Body, roll-Body, rec-Body, map-Body}
 use Rattle.pv_node.specs.declared.node.Body.TheOpen.{Body-F, Node-F}
-use Rattle.pv_node.specs.Preorder.{preorder, inside, inside_in, parts, parts_at, Inside, body_step, node_step, body_of, optional}
+use Rattle.pv_node.specs.Preorder.{preorder, inside, parts, parts_at, Inside, body_step, node_step}
 
 held : {Y : Type 0} (v : Y → Node) (k : Node → Inside) (ys : List Y)
     → flat_map (λ y. v y ∷ (k (v y)).nodes) ys ≡ flat_map (λ n. n ∷ (k n).nodes) (map v ys)

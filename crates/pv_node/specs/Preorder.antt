@@ -1,9 +1,8 @@
 -- The nodes of a schema: a node comes before its child schemas, and these come in the order of their keys.
-use Rattle.std.specs.Prelude.{◌≡◌, ℕ, List, [], ◌∷◌, ◌++◌, length, Option, Some, None}
+use Rattle.std.specs.Prelude.{ℕ, List, [], ◌∷◌, ◌++◌, length, Option, Some, None}
 use Rattle.std.specs.List.{flat_map}
-use Rattle.pv_rules.specs.declared.ScalarRule.TheVariants as rule
-use Rattle.pv_node.specs.declared.node.Node.{Node, out-Node, roll-Node, rec-Node}
-use Rattle.pv_node.specs.declared.node.Body.{Body, out-Body, roll-Body}
+use Rattle.pv_node.specs.declared.node.Node.{Node, out-Node, rec-Node}
+use Rattle.pv_node.specs.declared.node.Body.{Body, out-Body}
 use Rattle.pv_node.specs.declared.node.Body.TheOpen.{Body-F, Node-F}
 
 abbrev pub optional : {X : Type 0} → Option X → List X

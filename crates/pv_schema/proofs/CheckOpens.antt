@@ -4,7 +4,7 @@ use Rattle.std.specs.Prelude.{bytes_eq, is_some, not}
 use Rattle.std.specs.Option.{option_map}
 use Rattle.std.specs.List.{flat_map}
 use Rattle.pv_tree.specs.declared.Step.TheVariants.{Name, Index}
-use Rattle.pv_tree.specs.declared.Tree.{Tree, out-Tree, roll-Tree, rec-Tree, rec-roll-Tree, roll-out-Tree, out-roll-Tree, map-Tree}
+use Rattle.pv_tree.specs.declared.Tree.{Tree, out-Tree, rec-roll-Tree, roll-out-Tree, out-roll-Tree, map-Tree}
 use Rattle.pv_tree.specs.declared.Tree.TheVariants as tree
 use Rattle.pv_tree.specs.declared.Tree.TheVariants.{rolls-Object, rolls-Array}
 use Rattle.pv_schema.specs.Answers.{Answers}
@@ -13,10 +13,10 @@ use Rattle.pv_tree.specs.declared.Tree.TheOpen.{Tree-F}
 use Rattle.pv_schema.specs.Find.{find}
 use Rattle.pv_schema.specs.Table.{Rows, Row, rows, kind_under}
 use Rattle.pv_schema_values.specs.Levels.{items_at, members_at}
-use Rattle.pv_schema.specs.Checking.{Checked, checked, check_step, schema_faults, schemas_faults, type_in, misfit, misfits, key_faults, node_faults, object_faults, item_faults, list_faults, missing_in, is_absent, place_fits, members_fit, at_key, all_under, faults, faults_under, faults_below, member_faults, places_faults, rest_faults, members_faults, refused, schema_level, schemas_level}
+use Rattle.pv_schema.specs.Checking.{Checked, checked, check_step, schema_faults, schemas_faults, type_in, misfit, misfits, key_faults, node_faults, object_faults, item_faults, list_faults, missing_in, is_absent, place_fits, members_fit, at_key, all_under, faults, faults_under, faults_below, member_faults, places_faults, rest_faults, members_faults, schema_level, schemas_level}
 use Rattle.pv_schema.specs.declared.fault.Refusal.{Refusal}
 use Rattle.pv_schema.specs.declared.fault.Code.TheVariants.{Shape}
-use Rattle.pv_schema.specs.declared.fault.ShapeCode.TheVariants.{MissingKey, NotObject, BadValue}
+use Rattle.pv_schema.specs.declared.fault.ShapeCode.TheVariants.{MissingKey}
 use Rattle.pv_schema.specs.declared.kind.Kind.{Kind}
 use Rattle.pv_schema.specs.declared.node_type.NodeType.{NodeType}
 use Rattle.pv_schema.specs.declared.node_type.NodeType.TheVariants as node

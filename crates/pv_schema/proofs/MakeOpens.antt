@@ -1,5 +1,5 @@
 -- The schema that a tree is, by the schemas that the trees right inside are.
-use Rattle.std.proofs.Common.{◌≡◌, ℕ, List, [], ◌∷◌, map, refl, ap, sym, ◌∙◌, Option, Some, None, Result, Ok, Err, Bool, codes}
+use Rattle.std.proofs.Common.{◌≡◌, ℕ, List, map, refl, ap, sym, ◌∙◌, Option, Some, None, Result, Ok, Err, Bool, codes}
 use Rattle.std.specs.Result.{result_ok}
 use Rattle.std.proofs.Math.Path.{fun_ext}
 use Rattle.std.specs.Option.{option_map}

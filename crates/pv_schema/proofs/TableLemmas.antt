@@ -2,7 +2,7 @@
 use Rattle.std.proofs.Common.{◌≡◌, ℕ, Bool, true, false, if◌then◌else◌, List, [], ◌∷◌, ◌++◌, refl, ap, sym, ◌∙◌, Option, Some, None}
 use Rattle.std.specs.Prelude.{bytes_eq}
 use Rattle.pv_schema.specs.Find.{find}
-use Rattle.pv_schema.specs.Table.{Row, Rows, kind_of, kind_under, rows, own, common}
+use Rattle.pv_schema.specs.Table.{Row, Rows, kind_of, kind_under, own, common}
 use Rattle.pv_schema.specs.declared.kind.Kind.{Kind}
 use Rattle.pv_schema.specs.declared.node_type.NodeType.{NodeType}
 

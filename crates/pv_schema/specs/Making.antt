@@ -1,7 +1,7 @@
 -- The schema that a tree is, where nothing is wrong with it. What is absent is left out, and what is wrong is taken as absent.
-use Rattle.std.specs.Prelude.{ℕ, List, [], ◌∷◌, map, length, codes, Option, None, Some, Result, Ok, Err}
+use Rattle.std.specs.Prelude.{ℕ, List, [], map, length, codes, Option, None, Some, Result, Ok, Err}
 use Rattle.std.specs.Option.{option_map}
-use Rattle.pv_tree.specs.declared.Tree.{Tree, out-Tree, rec-Tree}
+use Rattle.pv_tree.specs.declared.Tree.{Tree, rec-Tree}
 use Rattle.pv_tree.specs.declared.Tree.TheOpen.{Tree-F}
 use Rattle.pv_rules.specs.declared.IntRule.{IntRule}
 use Rattle.pv_rules.specs.declared.StrRule.{StrRule}

@@ -1,9 +1,8 @@
 -- The types of nodes and their keys, as data: each key, what may stand under it, and whether it has to be there.
-use Rattle.std.specs.Prelude.{ℕ, Bool, true, false, if◌then◌else◌, List, [], ◌∷◌, ◌++◌, codes, Option, None, Some, bytes_eq}
+use Rattle.std.specs.Prelude.{ℕ, Bool, true, false, List, [], ◌∷◌, ◌++◌, codes, Option, None, Some}
 use Rattle.pv_schema.specs.Find.{find}
 use Rattle.pv_schema.specs.declared.kind.Kind.{Kind}
 use Rattle.pv_schema.specs.declared.kind.Kind.TheVariants as kind
-use Rattle.pv_schema_values.specs.declared.ValueKind.{ValueKind}
 use Rattle.pv_schema_values.specs.declared.ValueKind.TheVariants as value
 use Rattle.pv_schema.specs.declared.node_type.NodeType.{NodeType}
 use Rattle.pv_schema.specs.declared.node_type.NodeType.TheVariants as node

@@ -115,7 +115,11 @@ fn check_place(alloc: Global, members: &[(Text, Tree)]) -> Result<(), CheckFault
     if place_fits(place, items) {
         Ok(())
     } else {
-        Err(refused_at(alloc, "variadic_item_index", Code::Shape(ShapeCode::BadValue)))
+        Err(refused_at(
+            alloc,
+            "variadic_item_index",
+            Code::Shape(ShapeCode::BadValue),
+        ))
     }
 }
 

@@ -11,9 +11,9 @@ ghost use Rattle.pv_schema.specs.Making.{or_empty, read};
 
 use crate::keys::{flag_at, literals_at, version_at};
 use crate::listing::type_found;
-use pv_node::{Body, Node};
 use crate::node_type::NodeType;
 use crate::rules::{bytes_rule, enum_rule, gather_rule, int_rule, str_rule, tuple_rule, url_rule};
+use pv_node::{Body, Node};
 use pv_rules::{Collection, ScalarRule};
 use pv_text::{Memory, Text};
 use pv_tree::Tree;
@@ -50,11 +50,7 @@ fn make_child(
 
 /// The list of schemas under a key.
 #[cycle(make)]
-fn make_children(
-    alloc: Global,
-    members: &[(Text, Tree)],
-    key: &str,
-) -> Result<Items<Node>, Memory>
+fn make_children(alloc: Global, members: &[(Text, Tree)], key: &str) -> Result<Items<Node>, Memory>
     ensures { IfOk result (λ nodes. nodes ≡ or_empty (option_map spec.nodes_of (find key.now members.now))) }
 {
     for (name, value) in members {
@@ -66,11 +62,7 @@ fn make_children(
 }
 
 #[cycle(make)]
-fn make_sequence(
-    alloc: Global,
-    kind: Collection,
-    members: &[(Text, Tree)],
-) -> Result<Body, Memory>
+fn make_sequence(alloc: Global, kind: Collection, members: &[(Text, Tree)]) -> Result<Body, Memory>
     ensures { IfOk result (λ made. made ≡ Body.Sequence (spec.gather_rule (λ key. find key members.now) kind)
         (option_map spec.node_of (find (codes "items_schema") members.now))) }
 {
@@ -81,11 +73,7 @@ fn make_sequence(
 }
 
 #[cycle(make)]
-fn make_body(
-    alloc: Global,
-    node_type: NodeType,
-    members: &[(Text, Tree)],
-) -> Result<Body, Memory>
+fn make_body(alloc: Global, node_type: NodeType, members: &[(Text, Tree)]) -> Result<Body, Memory>
     ensures { IfOk result (λ made. made ≡ spec.body_in node_type members.now) }
 {
     match node_type {

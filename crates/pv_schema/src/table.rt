@@ -37,9 +37,13 @@ macro_rules! must {
 }
 
 const TEXT: Kind = Kind::Value(ValueKind::Text);
+
 const FLAG: Kind = Kind::Value(ValueKind::Flag);
+
 const FALSE: Kind = Kind::Value(ValueKind::False);
+
 const COUNT: Kind = Kind::Value(ValueKind::Count);
+
 const INTEGER: Kind = Kind::Value(ValueKind::Int);
 
 const COMMON: [Row; 5] = [
