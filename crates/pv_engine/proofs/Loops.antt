@@ -7,8 +7,8 @@ use Rattle.pv_tree.specs.declared.Tree.{Tree, out-Tree}
 use Rattle.pv_tree.specs.declared.Tree.TheOpen.{Tree-F}
 use Rattle.pv_fault.specs.declared.Outcome.{Outcome}
 use Rattle.pv_rules.specs.declared.GatherRule.{GatherRule}
-use Rattle.pv_collect.specs.Gathering.{Part, gather_items}
-use Rattle.pv_collect.specs.State.{Gathered, gathered_items}
+use Rattle.pv_collect.specs.Gathering.{Part, Pair, gather_items, gather_pairs}
+use Rattle.pv_collect.specs.State.{Gathered, gathered_items, gathered_pairs}
 use Rattle.pv_engine.specs.Rules.{Child, part, placed, placed_by, position_of}
 
 pub deeper : {X : Type 0} (f : ℕ → X) (n : ℕ) → 0 < n → f n ≡ f (suc (n - 1))
@@ -73,3 +73,10 @@ pub finished : (r : Result Outcome Memory) (g : Gathered) (input : Tree) (ts : L
     → IfOk r (λ o. o ≡ gather_items rule (length ts) input ps)
 finished (Ok o) g input ts rule ps e f given = given ts rule ps e f
 finished (Err e) g input ts rule ps f h given = given
+
+-- what a gather of these pairs finishes with
+pub pairs_finished : (r : Result Outcome Memory) (g : Gathered) (input : Tree) (ms : List (List ℕ × Tree)) (rule : GatherRule) (ps : List Pair) → out-Tree input ≡ Tree-F.Object ms → g ≡ gathered_pairs rule ps
+    → IfOk r (λ o. (ns : List (List ℕ × Tree)) (other : GatherRule) (qs : List Pair) → out-Tree input ≡ Tree-F.Object ns → g ≡ gathered_pairs other qs → o ≡ gather_pairs other input qs)
+    → IfOk r (λ o. o ≡ gather_pairs rule input ps)
+pairs_finished (Ok o) g input ms rule ps e f given = given ms rule ps e f
+pairs_finished (Err e) g input ms rule ps f h given = given

@@ -24,7 +24,7 @@ loop-place-preserved g c =
     let next = one_more c.args.rule.now children (length c.args.items.now) c.args.items.now c.loop-place.place c.index-items-place.result (f c.in-Some.number) parts
         (omega arith) c.index-items-place.is (sym c.in-Some.ensures) c.loop-place.invariant.rest in
     record {
-      gather = item_more c.loop-place.gather c.in_ok-gather-2.gather c.args.rule.now (take c.loop-place.place parts) _ c.index-items-place.result c.in_ok-outcome.outcome (f c.in-Some.number) (take_next parts c.loop-place.place _ _ next) c.in_ok-outcome.ensures c.loop-place.invariant.gather c.in_ok-gather-2.ensures;
+      gather = item_more c.loop-place.gather c.in_ok-gather.gather c.args.rule.now (take c.loop-place.place parts) _ c.index-items-place.result c.in_ok-outcome.outcome (f c.in-Some.number) (take_next parts c.loop-place.place _ _ next) c.in_ok-outcome.ensures c.loop-place.invariant.gather c.in_ok-gather.ensures;
       rest = drop_next parts c.loop-place.place _ _ next;
     }
 
