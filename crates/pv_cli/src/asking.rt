@@ -25,11 +25,13 @@ pub(crate) fn read_words(words: &Words) -> Asked<'_>
     ensures { asks result ≡ spec.asked words.now }
 {
     match command(words) {
-        Ok(Command::Validate {
-            strict,
-            schema,
-            document,
-        }) => Asked::Validated {
+        Ok(
+            Command::Validate {
+                strict,
+                schema,
+                document,
+            },
+        ) => Asked::Validated {
             strict,
             schema,
             document,

@@ -70,8 +70,8 @@ all_valid k i (p ∷ ps) h =
     let more : List LineError = items_errors k (i + 1) ps in
     let first : one_or_none (valid_item k p.outcome) ≡ values_of (p.outcome ∷ []) = item_valid k p.input p.outcome (empty_under (Index i) _ (empty_first here more h)) in
     ap (λ vs. vs ++ valid_items k ps) first
-        ∙ ap (λ vs. values_of (p.outcome ∷ []) ++ vs) (all_valid k (i + 1) ps (empty_second here more h))
-        ∙ sym (values_first p.outcome (outcomes_in ps))
+    ∙ ap (λ vs. values_of (p.outcome ∷ []) ++ vs) (all_valid k (i + 1) ps (empty_second here more h))
+    ∙ sym (values_first p.outcome (outcomes_in ps))
 
 -- where no member has an error, each adds its entry
 key_valid : (b : Bool) (k v : Value) (e : LineError) → (if b then [] else e ∷ []) ≡ [] → valid_entry (if b then Some k else None) (Some v) ≡ (k, v) ∷ []
@@ -94,7 +94,7 @@ all_entries (p ∷ ps) h =
     let here : key ++ errors_of p.value ≡ [] = empty_under (Name p.name) (key ++ errors_of p.value) (empty_first (pair_errors p) (flat_map pair_errors ps) h) in
     let no_key : key_errors p.name p.key ≡ [] = empty_under (Name (codes "[key]")) (key_errors p.name p.key) (empty_first key (errors_of p.value) here) in
     ap (λ es. es ++ valid_entries ps) (entry_valid p.name p.key p.value no_key)
-        ∙ ap (λ es. entry_of p.key p.value ++ es) (all_entries ps (empty_second (pair_errors p) (flat_map pair_errors ps) h))
+    ∙ ap (λ es. entry_of p.key p.value ++ es) (all_entries ps (empty_second (pair_errors p) (flat_map pair_errors ps) h))
 
 items_gathered : (r : GatherRule) (t : Tree) (ps : List Part) → finished_items (gathered_items r ps) t ≡ gather_items r (items_in t) t ps
 unfolding finished_items gathered_items gather_items
@@ -133,7 +133,7 @@ pairs_closed g r es fs tally n o t rule entries tallied same_list count made =
     let now : es ≡ g.entries = same_list ∙ sym entries in
     let size : n ≡ length g.entries = count ∙ ap length now in
     made
-        ∙ ap (λ x. closed x t tally (value.Dict es) n n) (sym rule)
-        ∙ ap (λ x. closed g.rule t x (value.Dict es) n n) (sym tallied)
-        ∙ ap (λ x. closed g.rule t g.tally (value.Dict x) n n) now
-        ∙ ap (λ x. closed g.rule t g.tally (value.Dict g.entries) x x) size
+    ∙ ap (λ x. closed x t tally (value.Dict es) n n) (sym rule)
+    ∙ ap (λ x. closed g.rule t x (value.Dict es) n n) (sym tallied)
+    ∙ ap (λ x. closed g.rule t g.tally (value.Dict x) n n) now
+    ∙ ap (λ x. closed g.rule t g.tally (value.Dict g.entries) x x) size

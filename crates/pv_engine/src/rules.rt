@@ -33,23 +33,16 @@ pub(crate) struct Rules<'a, F> {
     pub(crate) below: F,
 }
 
-impl<
+impl<'a, F: Fn(Global, &[Record], Option<bool>, u64, u32, &Tree) -> Result<Outcome, Memory>> Rules<
     'a,
-    F: Fn(Global, &[Record], Option<bool>, u64, u32, &Tree) -> Result<Outcome, Memory>,
-> Rules<'a, F> {
+    F,
+> {
     /// The record of this number, one depth further down.
     fn child(&self, number: u32, tree: &Tree) -> Result<Outcome, Memory>
         requires { Nests self.now.table.now self.now.run self.now.depth (F.pre self.now.below) (F.post self.now.below) }
         ensures { IfOk result (λ o. o ≡ run_table self.now.table.now self.now.run self.now.depth number tree.now) }
     {
-        (self.below)(
-            self.alloc,
-            self.table,
-            self.run,
-            self.depth,
-            number,
-            tree,
-        )
+        (self.below)(self.alloc, self.table, self.run, self.depth, number, tree)
     }
 
     fn first(&self, children: &[u32], tree: &Tree) -> Result<Outcome, Memory>

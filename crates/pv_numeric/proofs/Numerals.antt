@@ -97,7 +97,6 @@ rest_at_point : (u : List ℕ) → (drop (position_or_len is_point u) u ≡ []) 
 rest_at_point [] = inl refl
 rest_at_point (b ∷ bs) = by (eqb b 46) refl (rest_at_point bs)
   where
-
     by : (x : Bool) → eqb b 46 ≡ x → (drop (position_or_len is_point bs) bs ≡ []) ⊎ (drop (position_or_len is_point bs) bs ≡ 46 ∷ after_first is_point bs) →
         (drop (cond (not x) (1 + position_or_len is_point bs) 0) (b ∷ bs) ≡ []) ⊎ (drop (cond (not x) (1 + position_or_len is_point bs) 0) (b ∷ bs) ≡ 46 ∷ drop (cond (not x) (1 + position_or_len is_point bs) 0 + 1) (b ∷ bs))
     by true p rest = inr (ap (λ k. k ∷ bs) (eqb-true b 46 p))

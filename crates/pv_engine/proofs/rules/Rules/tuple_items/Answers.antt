@@ -12,7 +12,7 @@ returns-in_default g c =
     let children = map f c.args.children.now in
     let parts = placed c.args.rule.now children (length c.args.items.now) 0 c.args.items.now in
     let all : take c.loop-place.place parts ≡ parts = no_more c.args.rule.now children (length c.args.items.now) c.args.items.now c.loop-place.place c.index-items-place.result parts
-        (omega arith) c.index-items-place.is (sym c.in_default.ensures) c.loop-place.invariant.rest in
+    (omega arith) c.index-items-place.is (sym c.in_default.ensures) c.loop-place.invariant.rest in
     let held : c.loop-place.gather ≡ gathered_items c.args.rule.now parts = c.loop-place.invariant.gather ∙ ap (gathered_items c.args.rule.now) all in
     finished c.finish.result c.loop-place.gather c.args.tree.now c.args.items.now c.args.rule.now parts c.requires.array held c.finish.ensures.items
 
@@ -22,7 +22,7 @@ loop-place-preserved g c =
     let children = map f c.args.children.now in
     let parts = placed c.args.rule.now children (length c.args.items.now) 0 c.args.items.now in
     let next = one_more c.args.rule.now children (length c.args.items.now) c.args.items.now c.loop-place.place c.index-items-place.result (f c.in-Some.number) parts
-        (omega arith) c.index-items-place.is (sym c.in-Some.ensures) c.loop-place.invariant.rest in
+    (omega arith) c.index-items-place.is (sym c.in-Some.ensures) c.loop-place.invariant.rest in
     record {
       gather = item_more c.loop-place.gather c.in_ok-gather.gather c.args.rule.now (take c.loop-place.place parts) _ c.index-items-place.result c.in_ok-outcome.outcome (f c.in-Some.number) (take_next parts c.loop-place.place _ _ next) c.in_ok-outcome.ensures c.loop-place.invariant.gather c.in_ok-gather.ensures;
       rest = drop_next parts c.loop-place.place _ _ next;
