@@ -3,7 +3,7 @@
 use crate::Gather;
 use pv_fault::{Faults, Grade, Kind, LineError, Outcome, write_faults};
 use pv_rules::{Collection, GatherRule};
-use pv_text::{ByteBuf, Memory};
+use pv_text::{ByteBuf, Memory, Text};
 use pv_tree::{Loc, Tree, Value, Values};
 use std::alloc::Global;
 use std::test::Fail;
@@ -51,7 +51,34 @@ fn outcome(alloc: Global, code: u8) -> Result<Outcome, Memory> {
     })
 }
 
-/// The printed errors of an array of these parts, or an asterisk for each item that is kept.
+/// The printed errors, or an asterisk for each item or entry that is kept.
+fn shown(alloc: Global, outcome: Outcome) -> Result<ByteBuf, Memory> {
+    let mut out = ByteBuf::new(alloc);
+    let value = match outcome {
+        Outcome::Bad(errors) => {
+            write_faults(&errors, &mut out)?;
+            return Ok(out);
+        }
+        Outcome::Good {
+            value,
+            grade: _,
+            fields: _,
+        } => value,
+    };
+    let kept = match value {
+        Value::List(values) | Value::Tuple(values) | Value::Set(values) | Value::Frozen(values) => {
+            values.len()
+        }
+        Value::Dict(entries) => entries.len(),
+        _ => 0,
+    };
+    for _ in 0..kept {
+        out.push_slice(b"*")?;
+    }
+    Ok(out)
+}
+
+/// What an array of these parts gives.
 fn gathered(
     alloc: Global,
     rule: &GatherRule,
@@ -66,28 +93,19 @@ fn gathered(
     for code in codes {
         gather = gather.item(outcome(alloc, *code)?, &Tree::Null)?;
     }
-    let mut out = ByteBuf::new(alloc);
-    match gather.finish(&Tree::array(alloc, trees)?)? {
-        Outcome::Bad(errors) => write_faults(&errors, &mut out)?,
-        Outcome::Good {
-            value: Value::List(values)
-            | Value::Tuple(values)
-            | Value::Set(values)
-            | Value::Frozen(values),
-            grade: _,
-            fields: _,
-        } => {
-            for _ in 0..values.len() {
-                out.push_slice(b"*")?;
-            }
-        }
-        Outcome::Good {
-            value: _,
-            grade: _,
-            fields: _,
-        } => {}
+    shown(alloc, gather.finish(&Tree::array(alloc, trees)?)?)
+}
+
+/// What an object of these members gives, by their names and the outcomes of their keys and values.
+fn paired(alloc: Global, rule: &GatherRule, pairs: &[(&str, u8, u8)]) -> Result<ByteBuf, Memory> {
+    let mut members = Vec::new(alloc);
+    let mut gather = Gather::new(alloc, rule);
+    for (name, key, value) in pairs {
+        let name = Text::from_str(alloc, name)?;
+        gather = gather.pair(&name, outcome(alloc, *key)?, outcome(alloc, *value)?)?;
+        members.push((name, Tree::Null))?;
     }
-    Ok(out)
+    shown(alloc, gather.finish(&Tree::object(alloc, members)?)?)
 }
 
 #[test]
@@ -120,6 +138,37 @@ fn items_as_they_come(rt: HostRuntime) -> Result<(), Fail> {
     ];
     for (rule, codes, items, expected) in &cases {
         let out = gathered(alloc, rule, codes, *items)?;
+        assert_eq!(rt; out.as_slice(), *expected);
+    }
+    Ok(())
+}
+
+#[test]
+fn members_as_they_come(rt: HostRuntime) -> Result<(), Fail> {
+    let alloc = rt.alloc();
+    let dict = rule(Collection::Dict, 0, None, None, None);
+    let two = rule(Collection::Dict, 0, None, Some(2), None);
+    let cases: [(GatherRule, &[(&str, u8, u8)], &[u8]); 5] = [
+        (dict, &[("a", b'1', b'1'), ("b", b'2', b'2')], b"**"),
+        (dict, &[("a", b'1', b'1'), ("b", b't', b'2')], b"*"),
+        (
+            dict,
+            &[("a", b'e', b'e')],
+            b"[{\"type\":\"int_type\",\"loc\":[\"a\",\"[key]\"],\"msg\":\"Input should be a valid integer\",\"input\":null},{\"type\":\"int_type\",\"loc\":[\"a\"],\"msg\":\"Input should be a valid integer\",\"input\":null}]",
+        ),
+        (
+            dict,
+            &[("a", b'l', b'1')],
+            b"[{\"type\":\"dict_key_not_hashable\",\"loc\":[\"a\",\"[key]\"],\"msg\":\"Dictionary keys should be hashable\",\"input\":\"a\"}]",
+        ),
+        (
+            two,
+            &[("a", b'1', b'1'), ("b", b't', b'2')],
+            b"[{\"type\":\"too_short\",\"loc\":[],\"msg\":\"Dictionary should have at least 2 items after validation, not 1\",\"input\":{\"a\":null,\"b\":null},\"ctx\":{\"field_type\":\"Dictionary\",\"min_length\":2,\"actual_length\":1}}]",
+        ),
+    ];
+    for (rule, pairs, expected) in &cases {
+        let out = paired(alloc, rule, pairs)?;
         assert_eq!(rt; out.as_slice(), *expected);
     }
     Ok(())

@@ -10,7 +10,7 @@ use Rattle.pv_node.specs.Preorder.{body_of}
 use Rattle.pv_plan.specs.Records.{Stands, places, op_at, slots_at, or_any, own_strict, children_of}
 use Rattle.pv_plan.specs.declared.Op.{Op}
 use Rattle.pv_plan.specs.declared.Record.{Record}
-use Rattle.pv_engine.specs.Rules.{tuple}
+use Rattle.pv_engine.specs.Rules.{collection}
 use Rattle.pv_engine.specs.Meaning.{meaning, node, node_at, strict_in}
 use Rattle.pv_engine.specs.Run.{run_table, operation, at_record}
 
@@ -24,7 +24,7 @@ by_op : (run : Option Bool) (child : Node → Tree → Outcome) (strict : Bool) 
 unfolding operation
 by_op run child strict (Body-F.Scalar r) t = refl
 by_op run child strict (Body-F.Sequence r items) t = refl
-by_op run child strict (Body-F.Tuple r items) t = ap (λ fs. tuple r fs t) (all_children child items)
+by_op run child strict (Body-F.Tuple r items) t = ap (λ fs. collection r fs t) (all_children child items)
 by_op run child strict (Body-F.Dict r keys values) t = refl
 by_op run child strict (Body-F.Nullable inner) t = refl
 

@@ -1,5 +1,5 @@
 -- What a schema means, by its own nodes: the outcome for a tree at a depth. Each node that is entered takes one from the depth, and at depth 0 there is one error and nothing is looked at.
-use Rattle.std.specs.Prelude.{ℕ, zero, suc, Bool, List, map, Option, None, Some}
+use Rattle.std.specs.Prelude.{ℕ, zero, suc, Bool, List, [], ◌∷◌, map, Option, None, Some}
 use Rattle.pv_tree.specs.declared.Tree.{Tree}
 use Rattle.pv_rules.specs.Settings.{plain}
 use Rattle.pv_fault.specs.declared.Kind.TheVariants as kind
@@ -10,7 +10,7 @@ use Rattle.pv_node.specs.declared.Body.TheOpen.{Body-F}
 use Rattle.pv_node.specs.Preorder.{body_of}
 use Rattle.pv_scalar.specs.Scalars.{scalar_of}
 use Rattle.pv_plan.specs.Records.{or_any, own_strict}
-use Rattle.pv_engine.specs.Rules.{one_error, sequence, tuple, dict, nullable}
+use Rattle.pv_engine.specs.Rules.{one_error, collection, nullable}
 
 -- the strictness of the run, where it has one, else that of the node
 abbrev pub strict_in : Option Bool → Bool → Bool
@@ -21,9 +21,9 @@ strict_in (Some strict) own = strict
 module _ (run : Option Bool) (child : Node → Tree → Outcome) where
   abbrev pub node_at : Bool → Body-F Body Node → Tree → Outcome
   node_at strict (Body-F.Scalar r) t = scalar_of r plain (strict_in run strict) t
-  node_at strict (Body-F.Sequence r items) t = sequence r (child (or_any items)) t
-  node_at strict (Body-F.Tuple r items) t = tuple r (map child items) t
-  node_at strict (Body-F.Dict r keys values) t = dict r (child (or_any keys)) (child (or_any values)) t
+  node_at strict (Body-F.Sequence r items) t = collection r (child (or_any items) ∷ []) t
+  node_at strict (Body-F.Tuple r items) t = collection r (map child items) t
+  node_at strict (Body-F.Dict r keys values) t = collection r (child (or_any keys) ∷ child (or_any values) ∷ []) t
   node_at strict (Body-F.Nullable inner) t = nullable (child inner) t
 
   unfoldable pub node : Node → Tree → Outcome

@@ -9,6 +9,8 @@ use Rattle.pv_fault.specs.declared.Kind.{Kind}
 use Rattle.pv_fault.specs.declared.Kind.TheVariants as kind
 use Rattle.pv_fault.specs.declared.Outcome.{Outcome}
 use Rattle.pv_fault.specs.declared.Outcome.TheVariants.{Good, Bad}
+use Rattle.pv_rules.specs.declared.Collection.{Collection}
+use Rattle.pv_rules.specs.declared.Collection.TheVariants as kinds
 use Rattle.pv_rules.specs.declared.GatherRule.{GatherRule}
 use Rattle.pv_collect.specs.Gathering.{Part, Pair, error_here, type_error, gather_items, gather_pairs}
 
@@ -80,6 +82,29 @@ dict_at r key value t (Tree-F.Object ms) = gather_pairs r t (map (pair key value
 
 unfoldable pub dict : GatherRule → Child → Child → Tree → Outcome
 dict r key value t = dict_at r key value t (out-Tree t)
+
+-- a child that is not there; no node of a schema wants one
+abbrev pub no_child : Child
+no_child t = one_error kind.RecursionLoop t
+
+abbrev pub first : List Child → Child
+first [] = no_child
+first (c ∷ cs) = c
+
+abbrev pub second : List Child → Child
+second [] = no_child
+second (c ∷ cs) = first cs
+
+-- a collection of each kind, by its children: that of all items, those of the positions, or those of the keys and of the values
+abbrev pub collection_of : Collection → GatherRule → List Child → Tree → Outcome
+collection_of kinds.List r children t = sequence r (first children) t
+collection_of kinds.Set r children t = sequence r (first children) t
+collection_of kinds.Frozen r children t = sequence r (first children) t
+collection_of kinds.Tuple r children t = tuple r children t
+collection_of kinds.Dict r children t = dict r (first children) (second children) t
+
+unfoldable pub collection : GatherRule → List Child → Tree → Outcome
+collection r children t = collection_of r.kind r children t
 
 abbrev pub nullable_at : Child → Tree → Tree-F Tree → Outcome
 nullable_at inner t Tree-F.Null = Good value.None grade.Exact None

@@ -7,27 +7,13 @@ use Rattle.pv_scalar.specs.Scalars.{scalar_of}
 use Rattle.pv_plan.specs.declared.Op.{Op}
 use Rattle.pv_plan.specs.declared.Op.TheVariants as op
 use Rattle.pv_plan.specs.declared.Record.{Record}
-use Rattle.pv_engine.specs.Rules.{Child, one_error, sequence, tuple, dict, nullable}
+use Rattle.pv_engine.specs.Rules.{Child, one_error, no_child, first, collection, nullable}
 use Rattle.pv_engine.specs.Meaning.{strict_in}
-
--- a child that is not there; no table that stands for a schema wants one
-abbrev pub no_child : Child
-no_child t = one_error kind.RecursionLoop t
-
-abbrev pub first : List Child → Child
-first [] = no_child
-first (c ∷ cs) = c
-
-abbrev pub second : List Child → Child
-second [] = no_child
-second (c ∷ cs) = first cs
 
 -- one record, by what its children mean
 unfoldable pub operation : Op → Bool → List Child → Tree → Outcome
 operation (op.Scalar s) strict children t = scalar_of s.0 s.1 strict t
-operation (op.Sequence r) strict children t = sequence r (first children) t
-operation (op.Tuple r) strict children t = tuple r children t
-operation (op.Dict r) strict children t = dict r (first children) (second children) t
+operation (op.Gather r) strict children t = collection r children t
 operation op.Nullable strict children t = nullable (first children) t
 
 abbrev pub at_record : Option Bool → (ℕ → Child) → Option Record → Child

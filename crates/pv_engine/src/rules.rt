@@ -17,7 +17,7 @@ use crate::positions::position_of;
 use pv_collect::{Gather, type_error};
 use pv_fault::{Grade, Kind, Outcome};
 use pv_plan::{Op, Record};
-use pv_rules::GatherRule;
+use pv_rules::{Collection, GatherRule};
 use pv_scalar::scalar;
 use pv_text::{Memory, Text};
 use pv_tree::{Tree, Value};
@@ -47,7 +47,7 @@ impl<'a, F: Fn(Global, &[Record], Option<bool>, u64, u32, &Tree) -> Result<Outco
 
     fn first(&self, children: &[u32], tree: &Tree) -> Result<Outcome, Memory>
         requires { Nests self.now.table.now self.now.run self.now.depth (F.pre self.now.below) (F.post self.now.below) }
-        ensures { IfOk result (λ o. o ≡ spec.first (map (run_table self.now.table.now self.now.run self.now.depth) children.now) tree.now) }
+        ensures { IfOk result (λ o. o ≡ gives.first (map (run_table self.now.table.now self.now.run self.now.depth) children.now) tree.now) }
     {
         match children {
             [] => one_error(self.alloc, Kind::RecursionLoop, tree),
@@ -57,7 +57,7 @@ impl<'a, F: Fn(Global, &[Record], Option<bool>, u64, u32, &Tree) -> Result<Outco
 
     fn second(&self, children: &[u32], tree: &Tree) -> Result<Outcome, Memory>
         requires { Nests self.now.table.now self.now.run self.now.depth (F.pre self.now.below) (F.post self.now.below) }
-        ensures { IfOk result (λ o. o ≡ spec.second (map (run_table self.now.table.now self.now.run self.now.depth) children.now) tree.now) }
+        ensures { IfOk result (λ o. o ≡ gives.second (map (run_table self.now.table.now self.now.run self.now.depth) children.now) tree.now) }
     {
         match children {
             [] => one_error(self.alloc, Kind::RecursionLoop, tree),
@@ -75,7 +75,7 @@ impl<'a, F: Fn(Global, &[Record], Option<bool>, u64, u32, &Tree) -> Result<Outco
     ) -> Result<Outcome, Memory>
         requires array { out-Tree tree.now ≡ Tree-F.Array items.now }
         requires nests { Nests self.now.table.now self.now.run self.now.depth (F.pre self.now.below) (F.post self.now.below) }
-        ensures { IfOk result (λ o. o ≡ gives.sequence_at rule.now (spec.first (map (run_table self.now.table.now self.now.run self.now.depth) children.now)) tree.now (Tree-F.Array items.now)) }
+        ensures { IfOk result (λ o. o ≡ gives.sequence_at rule.now (gives.first (map (run_table self.now.table.now self.now.run self.now.depth) children.now)) tree.now (Tree-F.Array items.now)) }
     {
         let mut gather = Gather::new(self.alloc, rule);
         for item in items {
@@ -88,7 +88,7 @@ impl<'a, F: Fn(Global, &[Record], Option<bool>, u64, u32, &Tree) -> Result<Outco
     #[tactic(auto, unfolding(crate::specs::Rules::sequence))]
     fn sequence(&self, rule: &GatherRule, children: &[u32], tree: &Tree) -> Result<Outcome, Memory>
         requires { Nests self.now.table.now self.now.run self.now.depth (F.pre self.now.below) (F.post self.now.below) }
-        ensures { IfOk result (λ o. o ≡ gives.sequence rule.now (spec.first (map (run_table self.now.table.now self.now.run self.now.depth) children.now)) tree.now) }
+        ensures { IfOk result (λ o. o ≡ gives.sequence rule.now (gives.first (map (run_table self.now.table.now self.now.run self.now.depth) children.now)) tree.now) }
     {
         match tree {
             Tree::Null => one_error(self.alloc, type_error(rule.kind), tree),
@@ -103,7 +103,7 @@ impl<'a, F: Fn(Global, &[Record], Option<bool>, u64, u32, &Tree) -> Result<Outco
     #[tactic(auto, unfolding(crate::specs::Rules::nullable))]
     fn nullable(&self, children: &[u32], tree: &Tree) -> Result<Outcome, Memory>
         requires { Nests self.now.table.now self.now.run self.now.depth (F.pre self.now.below) (F.post self.now.below) }
-        ensures { IfOk result (λ o. o ≡ gives.nullable (spec.first (map (run_table self.now.table.now self.now.run self.now.depth) children.now)) tree.now) }
+        ensures { IfOk result (λ o. o ≡ gives.nullable (gives.first (map (run_table self.now.table.now self.now.run self.now.depth) children.now)) tree.now) }
     {
         match tree {
             Tree::Null => Ok(Outcome::Good {
@@ -183,8 +183,8 @@ impl<'a, F: Fn(Global, &[Record], Option<bool>, u64, u32, &Tree) -> Result<Outco
         requires { Nests self.now.table.now self.now.run self.now.depth (F.pre self.now.below) (F.post self.now.below) }
         ensures { IfOk result (λ more. (rule : GatherRule) (ps : List Pair) → gather ≡ gathered_pairs rule ps
             → more ≡ gathered_pairs rule (ps ++ gives.pair
-            (spec.first (map (run_table self.now.table.now self.now.run self.now.depth) children.now))
-            (spec.second (map (run_table self.now.table.now self.now.run self.now.depth) children.now)) (name.now, value.now) ∷ [])) }
+            (gives.first (map (run_table self.now.table.now self.now.run self.now.depth) children.now))
+            (gives.second (map (run_table self.now.table.now self.now.run self.now.depth) children.now)) (name.now, value.now) ∷ [])) }
     {
         let text = Tree::Str(name.share(self.alloc)?);
         let key = self.first(children, &text)?;
@@ -202,8 +202,8 @@ impl<'a, F: Fn(Global, &[Record], Option<bool>, u64, u32, &Tree) -> Result<Outco
         requires object { out-Tree tree.now ≡ Tree-F.Object members.now }
         requires nests { Nests self.now.table.now self.now.run self.now.depth (F.pre self.now.below) (F.post self.now.below) }
         ensures { IfOk result (λ o. o ≡ gives.dict_at rule.now
-            (spec.first (map (run_table self.now.table.now self.now.run self.now.depth) children.now))
-            (spec.second (map (run_table self.now.table.now self.now.run self.now.depth) children.now))
+            (gives.first (map (run_table self.now.table.now self.now.run self.now.depth) children.now))
+            (gives.second (map (run_table self.now.table.now self.now.run self.now.depth) children.now))
             tree.now (Tree-F.Object members.now)) }
     {
         let mut gather = Gather::new(self.alloc, rule);
@@ -217,8 +217,8 @@ impl<'a, F: Fn(Global, &[Record], Option<bool>, u64, u32, &Tree) -> Result<Outco
     fn dict(&self, rule: &GatherRule, children: &[u32], tree: &Tree) -> Result<Outcome, Memory>
         requires { Nests self.now.table.now self.now.run self.now.depth (F.pre self.now.below) (F.post self.now.below) }
         ensures { IfOk result (λ o. o ≡ gives.dict rule.now
-            (spec.first (map (run_table self.now.table.now self.now.run self.now.depth) children.now))
-            (spec.second (map (run_table self.now.table.now self.now.run self.now.depth) children.now)) tree.now) }
+            (gives.first (map (run_table self.now.table.now self.now.run self.now.depth) children.now))
+            (gives.second (map (run_table self.now.table.now self.now.run self.now.depth) children.now)) tree.now) }
     {
         match tree {
             Tree::Null => one_error(self.alloc, type_error(rule.kind), tree),
@@ -227,6 +227,20 @@ impl<'a, F: Fn(Global, &[Record], Option<bool>, u64, u32, &Tree) -> Result<Outco
             Tree::Str(_) => one_error(self.alloc, type_error(rule.kind), tree),
             Tree::Array(_) => one_error(self.alloc, type_error(rule.kind), tree),
             Tree::Object(members) => self.dict_members(rule, children, members.as_slice(), tree),
+        }
+    }
+
+    #[tactic(auto, unfolding(crate::specs::Rules::collection))]
+    fn collection(&self, rule: &GatherRule, children: &[u32], tree: &Tree) -> Result<Outcome, Memory>
+        requires { Nests self.now.table.now self.now.run self.now.depth (F.pre self.now.below) (F.post self.now.below) }
+        ensures { IfOk result (λ o. o ≡ gives.collection rule.now (map (run_table self.now.table.now self.now.run self.now.depth) children.now) tree.now) }
+    {
+        match rule.kind {
+            Collection::List => self.sequence(rule, children, tree),
+            Collection::Set => self.sequence(rule, children, tree),
+            Collection::Frozen => self.sequence(rule, children, tree),
+            Collection::Tuple => self.tuple(rule, children, tree),
+            Collection::Dict => self.dict(rule, children, tree),
         }
     }
 
@@ -248,9 +262,7 @@ impl<'a, F: Fn(Global, &[Record], Option<bool>, u64, u32, &Tree) -> Result<Outco
         let children = slot.children.as_slice();
         match &slot.op {
             Op::Scalar(rule) => scalar(self.alloc, rule, self.strictness(slot), tree),
-            Op::Sequence(rule) => self.sequence(rule, children, tree),
-            Op::Tuple(rule) => self.tuple(rule, children, tree),
-            Op::Dict(rule) => self.dict(rule, children, tree),
+            Op::Gather(rule) => self.collection(rule, children, tree),
             Op::Nullable => self.nullable(children, tree),
         }
     }

@@ -1,6 +1,7 @@
 //! Schemas as trees of nodes, and their nodes in order.
 #![tactic(auto)]
 
+mod copying;
 mod counting;
 mod laws;
 mod node;

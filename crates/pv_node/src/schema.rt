@@ -1,3 +1,4 @@
+use crate::copying::copy_node;
 use crate::node::Node;
 use pv_text::Memory;
 use std::alloc::Global;
@@ -50,13 +51,13 @@ impl Schema {
         self.root.as_ref()
     }
 
-    /// One more owner of the same schema. It wants memory where no further owner can be counted.
-    pub fn share(&self) -> Result<Schema, Memory>
+    /// One more owner of the same schema. Where no further owner can be counted, it is a copy.
+    pub fn share(&self, alloc: Global) -> Result<Schema, Memory>
         ensures { IfOk result (λ s. s ≡ self.now) }
     {
         match self.root.clone() {
             Ok(root) => Ok(Schema { root }),
-            Err(_) => Err(Memory),
+            Err(_) => Schema::new(alloc, copy_node(alloc, self.root())?),
         }
     }
 }

@@ -14,9 +14,9 @@ use Rattle.pv_plan.specs.declared.record.Record.{Record}
 -- what a node does, without its children
 abbrev pub op_at : {X Y : Type 0} → Body-F X Y → Op
 op_at (Body-F.Scalar r) = op.Scalar (r, plain)
-op_at (Body-F.Sequence r items) = op.Sequence r
-op_at (Body-F.Tuple r items) = op.Tuple r
-op_at (Body-F.Dict r keys values) = op.Dict r
+op_at (Body-F.Sequence r items) = op.Gather r
+op_at (Body-F.Tuple r items) = op.Gather r
+op_at (Body-F.Dict r keys values) = op.Gather r
 op_at (Body-F.Nullable inner) = op.Nullable
 
 -- the places for child schemas; nothing is written in some

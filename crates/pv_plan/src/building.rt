@@ -51,6 +51,6 @@ pub fn build(alloc: Global, schema: &Schema) -> Result<Plan, BuildFault>
     ensures pattern { Finds result (bad_pattern schema.now) }
 {
     let table = table(alloc, schema.root())?;
-    let schema = schema.share()?;
+    let schema = schema.share(alloc)?;
     Ok(Plan { table, schema })
 }

@@ -35,9 +35,9 @@ pub(crate) fn operation(alloc: Global, body: &Body) -> Result<Op, BuildFault>
             let op = scalar(alloc, rule)?;
             Ok(op)
         }
-        Body::Sequence { rule, .. } => Ok(Op::Sequence(*rule)),
-        Body::Tuple { rule, .. } => Ok(Op::Tuple(*rule)),
-        Body::Dict { rule, .. } => Ok(Op::Dict(*rule)),
+        Body::Sequence { rule, .. } => Ok(Op::Gather(*rule)),
+        Body::Tuple { rule, .. } => Ok(Op::Gather(*rule)),
+        Body::Dict { rule, .. } => Ok(Op::Gather(*rule)),
         Body::Nullable { .. } => Ok(Op::Nullable),
     }
 }

@@ -6,12 +6,9 @@ use sqlite_items::Items;
 #[derive(Drop)]
 pub enum Op {
     Scalar(Scalar),
-    /// A list, a set or a frozenset, with one child for all items.
-    Sequence(GatherRule),
-    /// A tuple, with a child for each position.
-    Tuple(GatherRule),
-    /// A dict, with a child for the keys and one for the values.
-    Dict(GatherRule),
+    /// A collection. A list, a set and a frozenset have one child for all items, a tuple has one for
+    /// each position, and a dict has one for the keys and one for the values.
+    Gather(GatherRule),
     Nullable,
 }
 

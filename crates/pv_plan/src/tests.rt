@@ -101,9 +101,13 @@ fn nested(alloc: Global) -> Result<Node, Memory> {
 fn name_of(op: &Op) -> &'static str {
     match op {
         Op::Scalar(_) => "scalar",
-        Op::Sequence(_) => "sequence",
-        Op::Tuple(_) => "tuple",
-        Op::Dict(_) => "dict",
+        Op::Gather(rule) => match rule.kind {
+            Collection::List => "list",
+            Collection::Tuple => "tuple",
+            Collection::Set => "set",
+            Collection::Frozen => "frozenset",
+            Collection::Dict => "dict",
+        },
         Op::Nullable => "nullable",
     }
 }
@@ -151,7 +155,7 @@ fn records_are_numbered_in_preorder(rt: HostRuntime) -> Result<(), Fail> {
     let shown = outcome(alloc, nested(alloc)?)?;
     assert_eq!(rt;
         shown.as_str(),
-        "tuple 1 3 6\nsequence 2\nscalar\ndict 7 4\nnullable 5\nscalar\nsequence 7 strict\nscalar\n"
+        "tuple 1 3 6\nlist 2\nscalar\ndict 7 4\nnullable 5\nscalar\nlist 7 strict\nscalar\n"
     );
     let shown = outcome(alloc, dict(boxed(alloc, any())?, boxed(alloc, any())?))?;
     assert_eq!(rt; shown.as_str(), "dict 1 2\nscalar\nscalar\nscalar\n");

@@ -1,11 +1,13 @@
 //! What the nodes of a schema ask for, apart from their child schemas: rules and settings.
 #![tactic(auto)]
 
+mod copying;
 mod gather_rule;
 mod literal;
 mod scalar_rule;
 mod settings;
 
+pub use copying::{copy_literals, copy_members, copy_names};
 pub use gather_rule::{Collection, GatherRule};
 pub use literal::{EnumMember, Literal};
 pub use scalar_rule::{BytesRule, EnumRule, IntRule, ScalarRule, StrRule, SubType, UrlRule};

@@ -1,11 +1,13 @@
-use crate::copies::{copy_literals, copy_members, copy_names, copy_settings};
 use crate::enums::{EnumTests, Members};
 use crate::formats::UrlTests;
 use crate::literals::Literals;
 use crate::schemes::Schemes;
 use crate::texts::StrTests;
 use pv_formats::{Pattern, PatternFault, compile_pattern};
-use pv_rules::{BytesRule, EnumRule, IntRule, Literal, ScalarRule, Settings, StrRule, UrlRule};
+use pv_rules::{
+    BytesRule, EnumRule, IntRule, Literal, ScalarRule, Settings, StrRule, UrlRule, copy_literals,
+    copy_members, copy_names,
+};
 use pv_text::{Memory, Text};
 use pv_tree::Names;
 use sqlite_items::Items;
@@ -60,7 +62,7 @@ impl Scalar {
         ensures syntax { IfErr result (λ e. e ≡ PatternFault.Syntax → ¬ IsBuildable rule.now) }
     {
         match body_of(alloc, rule) {
-            Ok(body) => match copy_settings(alloc, settings) {
+            Ok(body) => match settings.copy(alloc) {
                 Ok(settings) => Ok(Scalar { body, settings }),
                 Err(Memory) => Err(PatternFault::Memory),
             },

@@ -6,7 +6,7 @@ ghost use Rattle.pv_scalar.specs.TestRules.{enum_rule};
 ghost use Rattle.pv_scalar.specs.Scalars as spec;
 
 use crate::answers::Graded;
-use crate::copies::values_of;
+use crate::values::values_of;
 use crate::integers::int;
 use crate::literals::Literals;
 use pv_fault::{Grade, Kind};

@@ -3,7 +3,6 @@
 
 mod answers;
 mod built;
-mod copies;
 mod enums;
 mod flags;
 mod formats;
@@ -17,6 +16,7 @@ mod schemes;
 mod tests;
 mod texts;
 mod validation;
+mod values;
 
 pub use built::Scalar;
 pub use laws::{ints_of_texts_are_numerals, strict_ints_are_written};

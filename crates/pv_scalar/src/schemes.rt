@@ -1,6 +1,6 @@
 //! The schemes that a URL may have.
 
-use crate::copies::text_literals;
+use crate::values::text_literals;
 use crate::literals::Literals;
 use pv_text::{Memory, Text};
 use pv_tree::Names;

@@ -485,7 +485,7 @@ fn a_schema_has_a_hundred_thousand_nodes_at_most(rt: HostRuntime) -> Result<(), 
     let Ok(schema) = read_schema(alloc, &tuple_of(alloc, 99_999)?) else {
         return Err("refused")?;
     };
-    let shared = schema.share()?;
+    let shared = schema.share(alloc)?;
     assert_eq!(rt; count_nodes(shared.root())?, MAX_NODES);
     let larger = read_schema(alloc, &tuple_of(alloc, 100_000)?);
     assert!(rt; matches!(larger, Err(SchemaFault::TooManyNodes { count: 100_001 })));

@@ -2,7 +2,8 @@ use Rattle.std.proofs.Common.{◌≡◌, map, ap, ◌∙◌}
 use Rattle.std.proofs.lemmas.List.{take_all}
 use Rattle.pv_collect.specs.State.{gathered_pairs}
 use Rattle.pv_engine.specs.Rules.{pair}
-use Rattle.pv_engine.specs.Run.{run_table, first, second}
+use Rattle.pv_engine.specs.Rules.{first, second}
+use Rattle.pv_engine.specs.Run.{run_table}
 use Rattle.pv_engine.proofs.Loops.{pairs_finished}
 use Rattle.pv_engine.proofs.rules.Rules.dict_members.Goals as goal
 

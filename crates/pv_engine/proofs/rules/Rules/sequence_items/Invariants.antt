@@ -1,7 +1,8 @@
 use Rattle.std.proofs.Common.{◌≡◌, map, take}
 use Rattle.pv_collect.specs.State.{gathered_items}
 use Rattle.pv_engine.specs.Rules.{part}
-use Rattle.pv_engine.specs.Run.{run_table, first}
+use Rattle.pv_engine.specs.Rules.{first}
+use Rattle.pv_engine.specs.Run.{run_table}
 use Rattle.pv_engine.proofs.rules.Rules.sequence_items.Given as goal
 
 abbrev pub invariant-loop-item : goal.invariant-loop-item

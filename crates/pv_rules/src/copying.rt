@@ -1,0 +1,165 @@
+//! Copies of rules and settings. The texts in them are shared.
+
+ghost use Rattle.std.specs.Prelude.{◌≡◌, IfOk};
+
+use crate::literal::{EnumMember, Literal};
+use crate::scalar_rule::{EnumRule, ScalarRule, StrRule, UrlRule};
+use crate::settings::Settings;
+use pv_text::{Memory, Text};
+use pv_tree::Names;
+use sqlite_items::Items;
+use std::alloc::Global;
+
+fn copy_text(alloc: Global, text: &Option<Text>) -> Result<Option<Text>, Memory>
+    ensures { IfOk result (λ copied. copied ≡ text.now) }
+{
+    match text {
+        Some(text) => Ok(Some(text.share(alloc)?)),
+        None => Ok(None),
+    }
+}
+
+fn copy_optional_names(alloc: Global, names: &Option<Names>) -> Result<Option<Names>, Memory>
+    ensures { IfOk result (λ copied. copied ≡ names.now) }
+{
+    match names {
+        Some(names) => Ok(Some(copy_names(alloc, names.as_slice())?)),
+        None => Ok(None),
+    }
+}
+
+/// An equal list of names.
+pub fn copy_names(alloc: Global, names: &[Text]) -> Result<Names, Memory>
+    ensures { IfOk result (λ copied. copied ≡ names.now) }
+{
+    let mut copied = Items::new(alloc);
+    for name in names {
+        copied.push(name.share(alloc)?)?;
+    }
+    Ok(copied)
+}
+
+/// An equal list of values.
+pub fn copy_literals(alloc: Global, literals: &[Literal]) -> Result<Items<Literal>, Memory>
+    ensures { IfOk result (λ copied. copied ≡ literals.now) }
+{
+    let mut copied = Items::new(alloc);
+    for literal in literals {
+        copied.push(literal.copy(alloc)?)?;
+    }
+    Ok(copied)
+}
+
+/// An equal list of members.
+pub fn copy_members(alloc: Global, members: &[EnumMember]) -> Result<Items<EnumMember>, Memory>
+    ensures { IfOk result (λ copied. copied ≡ members.now) }
+{
+    let mut copied = Items::new(alloc);
+    for member in members {
+        copied.push(member.copy(alloc)?)?;
+    }
+    Ok(copied)
+}
+
+impl Literal {
+    /// An equal value.
+    pub fn copy(&self, alloc: Global) -> Result<Literal, Memory>
+        ensures { IfOk result (λ copied. copied ≡ self.now) }
+    {
+        match self {
+            Literal::Null => Ok(Literal::Null),
+            Literal::Flag(flag) => Ok(Literal::Flag(*flag)),
+            Literal::Int(n) => Ok(Literal::Int(*n)),
+            Literal::Text(text) => Ok(Literal::Text(text.share(alloc)?)),
+        }
+    }
+}
+
+impl EnumMember {
+    /// An equal member.
+    pub fn copy(&self, alloc: Global) -> Result<EnumMember, Memory>
+        ensures { IfOk result (λ copied. copied ≡ self.now) }
+    {
+        Ok(EnumMember {
+            name: self.name.share(alloc)?,
+            value: self.value.copy(alloc)?,
+        })
+    }
+}
+
+impl StrRule {
+    fn copy(&self, alloc: Global) -> Result<StrRule, Memory>
+        ensures { IfOk result (λ copied. copied ≡ self.now) }
+    {
+        Ok(StrRule {
+            min_length: self.min_length,
+            max_length: self.max_length,
+            pattern: copy_text(alloc, &self.pattern)?,
+            strip_whitespace: self.strip_whitespace,
+        })
+    }
+}
+
+impl UrlRule {
+    fn copy(&self, alloc: Global) -> Result<UrlRule, Memory>
+        ensures { IfOk result (λ copied. copied ≡ self.now) }
+    {
+        Ok(UrlRule {
+            max_length: self.max_length,
+            allowed_schemes: copy_optional_names(alloc, &self.allowed_schemes)?,
+        })
+    }
+}
+
+impl EnumRule {
+    fn copy(&self, alloc: Global) -> Result<EnumRule, Memory>
+        ensures { IfOk result (λ copied. copied ≡ self.now) }
+    {
+        Ok(EnumRule {
+            cls: self.cls.share(alloc)?,
+            members: copy_members(alloc, self.members.as_slice())?,
+            sub_type: self.sub_type,
+        })
+    }
+}
+
+impl ScalarRule {
+    /// An equal rule.
+    pub fn copy(&self, alloc: Global) -> Result<ScalarRule, Memory>
+        ensures { IfOk result (λ copied. copied ≡ self.now) }
+    {
+        match self {
+            ScalarRule::Any => Ok(ScalarRule::Any),
+            ScalarRule::None => Ok(ScalarRule::None),
+            ScalarRule::Bool => Ok(ScalarRule::Bool),
+            ScalarRule::Int(rule) => Ok(ScalarRule::Int(*rule)),
+            ScalarRule::Str(rule) => Ok(ScalarRule::Str(rule.copy(alloc)?)),
+            ScalarRule::Bytes(rule) => Ok(ScalarRule::Bytes(*rule)),
+            ScalarRule::Uuid(version) => Ok(ScalarRule::Uuid(*version)),
+            ScalarRule::Url(rule) => Ok(ScalarRule::Url(rule.copy(alloc)?)),
+            ScalarRule::Literal(expected) => {
+                Ok(ScalarRule::Literal(copy_literals(alloc, expected.as_slice())?))
+            }
+            ScalarRule::Enum(rule) => Ok(ScalarRule::Enum(rule.copy(alloc)?)),
+        }
+    }
+}
+
+impl Settings {
+    /// Equal settings.
+    pub fn copy(&self, alloc: Global) -> Result<Settings, Memory>
+        ensures { IfOk result (λ copied. copied ≡ self.now) }
+    {
+        Ok(Settings {
+            title: copy_text(alloc, &self.title)?,
+            strict: self.strict,
+            extra_fields_behavior: self.extra_fields_behavior,
+            populate_by_name: self.populate_by_name,
+            loc_by_alias: self.loc_by_alias,
+            validate_default: self.validate_default,
+            str_strip_whitespace: self.str_strip_whitespace,
+            str_min_length: self.str_min_length,
+            str_max_length: self.str_max_length,
+        })
+    }
+}

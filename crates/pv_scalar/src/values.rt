@@ -1,0 +1,31 @@
+//! The values that members and names stand for.
+
+ghost use Rattle.std.specs.Prelude.{◌≡◌, map, IfOk};
+ghost use Rattle.pv_scalar.specs.Literals.{enum_value};
+
+use pv_rules::{EnumMember, Literal};
+use pv_text::{Memory, Text};
+use sqlite_items::Items;
+use std::alloc::Global;
+
+/// The values of members.
+pub(crate) fn values_of(alloc: Global, members: &[EnumMember]) -> Result<Items<Literal>, Memory>
+    ensures { IfOk result (λ all. all ≡ map enum_value members.now) }
+{
+    let mut all = Items::new(alloc);
+    for member in members {
+        all.push(member.value.copy(alloc)?)?;
+    }
+    Ok(all)
+}
+
+/// Texts as values.
+pub(crate) fn text_literals(alloc: Global, names: &[Text]) -> Result<Items<Literal>, Memory>
+    ensures { IfOk result (λ all. all ≡ map Literal.Text names.now) }
+{
+    let mut all = Items::new(alloc);
+    for name in names {
+        all.push(Literal::Text(name.share(alloc)?))?;
+    }
+    Ok(all)
+}
