@@ -6,9 +6,9 @@ ghost use Rattle.pv_scalar.specs.TestRules.{enum_rule};
 ghost use Rattle.pv_scalar.specs.Scalars as spec;
 
 use crate::answers::Graded;
-use crate::values::values_of;
 use crate::integers::int;
 use crate::literals::Literals;
+use crate::values::values_of;
 use pv_fault::{Grade, Kind};
 use pv_rules::{EnumMember, Literal, SubType};
 use pv_text::{Memory, Text};

@@ -1,7 +1,7 @@
 //! The schemes that a URL may have.
 
-use crate::values::text_literals;
 use crate::literals::Literals;
+use crate::values::text_literals;
 use pv_text::{Memory, Text};
 use pv_tree::Names;
 use std::alloc::Global;
