@@ -11,6 +11,7 @@ mod finding;
 mod fitting;
 mod keys;
 mod kind;
+mod laws;
 mod listing;
 mod making;
 mod node_type;
@@ -23,5 +24,6 @@ mod tests;
 
 pub use fault::{Code, Refusal, SchemaFault, ShapeCode};
 pub use kind::Kind;
+pub use laws::what_is_read_is_allowed;
 pub use node_type::NodeType;
 pub use reading::read_schema;

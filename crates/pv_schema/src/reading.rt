@@ -1,4 +1,6 @@
+ghost use Rattle.std.specs.Prelude.{IfOk};
 ghost use Rattle.pv_schema.specs.Reading.{Reads, schema_of};
+ghost use Rattle.pv_schema.specs.Allowed.{AreAllowed};
 
 use crate::check_fault::CheckFault;
 use crate::checking::check_schema;
@@ -24,7 +26,8 @@ impl From<Memory> for SchemaFault {
 /// docs/SCHEMAS.md has the table of keys and the order of refusals.
 #[tactic(auto, unfolding(crate::specs::Reading::schema_of))]
 pub fn read_schema(alloc: Global, t: &Tree) -> Result<Schema, SchemaFault>
-    ensures { Reads result (schema_of t.now) }
+    ensures reads { Reads result (schema_of t.now) }
+    ensures allowed { IfOk result (λ s. AreAllowed s) }
 {
     match check_schema(alloc, t) {
         Ok(()) => {

@@ -1,0 +1,100 @@
+-- Where nothing is wrong with the members of a node, nothing is wrong with what is found under a key, and what has to be there is there.
+use Rattle.std.proofs.Common.{◌≡◌, ℕ, Bool, true, false, if◌then◌else◌, List, [], ◌∷◌, ◌++◌, Option, None, Some, is_some, not, option_map, flat_map, refl, sym, ◌∙◌, subst}
+use Rattle.std.proofs.lemmas.Slice.Eq.{bytes_eq-Decides}
+use Rattle.std.specs.Str.{bytes_eq}
+use Rattle.pv_tree.specs.declared.Step.{Step}
+use Rattle.pv_tree.specs.declared.Step.TheVariants.{Name}
+use Rattle.pv_tree.specs.declared.Tree.{Tree}
+use Rattle.pv_node.specs.Preorder.{preorder, optional}
+use Rattle.pv_schema_values.specs.Values.{is_value, literals_of, members_of}
+use Rattle.pv_schema_values.specs.declared.ValueKind.{ValueKind}
+use Rattle.pv_schema_values.specs.declared.ValueKind.TheVariants as value
+use Rattle.pv_schema.specs.Find.{find}
+use Rattle.pv_schema.specs.Table.{Rows, kind_under}
+use Rattle.pv_schema.specs.Checking.{schema_faults, schemas_faults, faults, faults_below, member_faults, all_under, is_absent, missing_in}
+use Rattle.pv_schema.specs.Making.{node_of, nodes_of, or_empty, read}
+use Rattle.pv_schema.specs.Allowed.{WhereThere, OfEach, IsAllowed}
+use Rattle.pv_schema.specs.declared.fault.Refusal.{Refusal}
+use Rattle.pv_schema.specs.declared.kind.Kind.{Kind}
+use Rattle.pv_schema.specs.declared.kind.Kind.TheVariants as kind
+use Rattle.pv_schema.specs.declared.node_type.NodeType.{NodeType}
+
+pub both_empty : {X : Type 0} (xs ys : List X) → xs ++ ys ≡ [] → (xs ≡ []) × (ys ≡ [])
+both_empty [] ys e = (refl, e)
+both_empty (x ∷ xs) ys e = cc
+
+pub none_under : (step : Step) (rs : List Refusal) → all_under step rs ≡ [] → rs ≡ []
+none_under step [] e = refl
+none_under step (r ∷ rs) e = cc
+
+pub right : {X : Type 0} (b : Bool) (x : X) → (if b then [] else x ∷ []) ≡ [] → b ≡ true
+right true x e = refl
+right false x e = cc
+
+-- a tree with which nothing is wrong is allowed, as a schema and as a list of schemas
+pub record IsSound (t : Tree) : Type 0 where
+  pub as_schema : schema_faults t ≡ [] → OfEach IsAllowed (preorder (node_of t))
+  pub as_schemas : schemas_faults t ≡ [] → OfEach IsAllowed (flat_map preorder (nodes_of t))
+
+pub each_append : {X : Type 0} (P : X → Type 0) (xs ys : List X) → OfEach P xs → OfEach P ys → OfEach P (xs ++ ys)
+each_append P [] ys h k = k
+each_append P (x ∷ xs) ys h k = (h.0, each_append P xs ys h.1 k)
+
+-- nothing is wrong with a tree under a key that takes a kind
+abbrev pub IsRight : Option Kind → Tree → Type 0
+IsRight k t = (faults_below k t ≡ []) × IsSound t
+
+pub members_right : (n : NodeType) (ms : List (List ℕ × Tree)) → flat_map (member_faults n) ms ≡ [] → OfEach (λ m. IsSound m.1) ms
+    → OfEach (λ m. IsRight (kind_under n m.0) m.1) ms
+members_right n [] e h = tt
+members_right n (m ∷ ms) e h =
+    let p = both_empty (member_faults n m) (flat_map (member_faults n) ms) e in
+    ((none_under (Name m.0) (faults_below (kind_under n m.0) m.1) p.0, h.0), members_right n ms p.1 h.1)
+
+first_found : {X : Type 0} (P : X → Type 0) (b : Bool) (x : X) (o : Option X) → (b ≡ true → P x) → WhereThere P o → WhereThere P (if b then Some x else o)
+first_found P true x o h k = h refl
+first_found P false x o h k = k
+
+pub found_is : (P : List ℕ → Tree → Type 0) (key : List ℕ) (ms : List (List ℕ × Tree)) → OfEach (λ m. P m.0 m.1) ms → WhereThere (P key) (find key ms)
+found_is P key [] h = tt
+found_is P key (m ∷ ms) h =
+    first_found (P key) (bytes_eq key m.0) m.1 (find key ms) (λ e. subst (λ k. P k m.1) (sym ((bytes_eq-Decides key m.0).0 e)) h.0) (found_is P key ms h.1)
+
+-- keys that have to be there are there
+there : (b : Bool) (r : Refusal) (rs : List Refusal) → (if b then r ∷ rs else rs) ≡ [] → (b ≡ false) × (rs ≡ [])
+there true r rs e = cc
+there false r rs e = (refl, e)
+
+pub none_absent : (ms : List (List ℕ × Tree)) (rs : Rows) → missing_in ms rs ≡ [] → OfEach (λ r. is_absent ms r ≡ false) rs
+none_absent ms [] e = tt
+none_absent ms (r ∷ rs) e = let p = there (is_absent ms r) _ (missing_in ms rs) e in (p.0, none_absent ms rs p.1)
+
+pub is_there : (b : Bool) → not b ≡ false → b ≡ true
+is_there true e = refl
+is_there false e = cc
+
+-- the schema under a key, and the list of schemas
+pub schema_right : (o : Option Tree) → WhereThere (IsRight (Some kind.Schema)) o → OfEach IsAllowed (flat_map preorder (optional (option_map node_of o)))
+unfolding faults
+schema_right None h = tt
+schema_right (Some t) h = each_append IsAllowed (preorder (node_of t)) [] (h.1.as_schema h.0) tt
+
+pub schemas_right : (o : Option Tree) → WhereThere (IsRight (Some kind.Schemas)) o → OfEach IsAllowed (flat_map preorder (or_empty (option_map nodes_of o)))
+unfolding faults
+schemas_right None h = tt
+schemas_right (Some t) h = h.1.as_schemas h.0
+
+-- a value that has to be there
+pub value_right : {Y : Type 0} (v : ValueKind) (f : Tree → Option Y) → ((t : Tree) → is_value v t ≡ is_some (f t))
+    → (o : Option Tree) → is_some o ≡ true → WhereThere (IsRight (Some (kind.Value v))) o → is_some (read f o) ≡ true
+unfolding faults
+value_right v f same None is h = is
+value_right v f same (Some t) is h = sym (same t) ∙ right (is_value v t) _ h.0
+
+pub is_literals : (t : Tree) → is_value value.Literals t ≡ is_some (literals_of t)
+unfolding is_value
+is_literals t = refl
+
+pub is_members : (t : Tree) → is_value value.Members t ≡ is_some (members_of t)
+unfolding is_value
+is_members t = refl
