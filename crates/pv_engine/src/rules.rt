@@ -231,7 +231,12 @@ impl<'a, F: Fn(Global, &[Record], Option<bool>, u64, u32, &Tree) -> Result<Outco
     }
 
     #[tactic(auto, unfolding(crate::specs::Rules::collection))]
-    fn collection(&self, rule: &GatherRule, children: &[u32], tree: &Tree) -> Result<Outcome, Memory>
+    fn collection(
+        &self,
+        rule: &GatherRule,
+        children: &[u32],
+        tree: &Tree,
+    ) -> Result<Outcome, Memory>
         requires { Nests self.now.table.now self.now.run self.now.depth (F.pre self.now.below) (F.post self.now.below) }
         ensures { IfOk result (λ o. o ≡ gives.collection rule.now (map (run_table self.now.table.now self.now.run self.now.depth) children.now) tree.now) }
     {

@@ -1,5 +1,6 @@
 use crate::{PatternFault, compile_pattern, url, uuid};
 use pv_text::Text;
+use std::alloc::Global;
 use std::test::Fail;
 
 const HYPHENATED: &str = "67e55044-10b1-426f-9247-bb680e5fe0c8";
@@ -59,6 +60,14 @@ fn reads_urls(rt: HostRuntime) -> Result<(), Fail> {
     Ok(())
 }
 
+/// Whether a pattern has a match in a text.
+fn matches(alloc: Global, pattern: &str, text: &str) -> Result<bool, Fail> {
+    match compile_pattern(alloc, &Text::from_str(alloc, pattern)?) {
+        Ok(compiled) => Ok(compiled.is_match(alloc, text)?),
+        Err(_) => Err(Fail::from("no pattern")),
+    }
+}
+
 #[test]
 fn searches_patterns_anywhere(rt: HostRuntime) -> Result<(), Fail> {
     let alloc = rt.alloc();
@@ -72,20 +81,21 @@ fn searches_patterns_anywhere(rt: HostRuntime) -> Result<(), Fail> {
         ("^.$", "\u{e9}", true),
     ];
     for (pattern, text, want) in table {
-        let compiled = compile_pattern(alloc, &Text::from_str(alloc, pattern)?);
-        let compiled = compiled.expect(&rt, "a pattern");
-        assert_eq!(rt; compiled.as_str(), pattern);
-        assert_eq!(rt;
-            compiled.is_match(alloc, text)?,
-            want,
-            "at {pattern} in {text}"
-        );
+        assert_eq!(rt; matches(alloc, pattern, text)?, want, "at {pattern}");
     }
+    Ok(())
+}
+
+#[test]
+fn refuses_patterns_that_are_none(rt: HostRuntime) -> Result<(), Fail> {
+    let alloc = rt.alloc();
     for bad in ["(", "a{5,2}", "\\1", "(?=a)", "[z-a]"] {
         let refused = compile_pattern(alloc, &Text::from_str(alloc, bad)?).err();
         assert_eq!(rt; refused, Some(PatternFault::Syntax), "at {bad}");
     }
     let large = compile_pattern(alloc, &Text::from_str(alloc, "(\\w{200}){200}")?).err();
     assert_eq!(rt; large, Some(PatternFault::Memory));
+    let compiled = compile_pattern(alloc, &Text::from_str(alloc, "a|b")?).expect(&rt, "a pattern");
+    assert_eq!(rt; compiled.as_str(), "a|b");
     Ok(())
 }
