@@ -51,29 +51,28 @@ fn outcome(alloc: Global, code: u8) -> Result<Outcome, Memory> {
     })
 }
 
-/// The printed errors, or an asterisk for each item or entry that is kept.
-fn shown(alloc: Global, outcome: Outcome) -> Result<ByteBuf, Memory> {
-    let mut out = ByteBuf::new(alloc);
-    let value = match outcome {
-        Outcome::Bad(errors) => {
-            write_faults(&errors, &mut out)?;
-            return Ok(out);
-        }
-        Outcome::Good {
-            value,
-            grade: _,
-            fields: _,
-        } => value,
-    };
-    let kept = match value {
-        Value::List(values) | Value::Tuple(values) | Value::Set(values) | Value::Frozen(values) => {
-            values.len()
-        }
+/// How many items or entries a collection keeps.
+fn kept(value: &Value) -> usize {
+    match value {
+        Value::List(values) => values.len(),
+        Value::Tuple(values) => values.len(),
+        Value::Set(values) => values.len(),
+        Value::Frozen(values) => values.len(),
         Value::Dict(entries) => entries.len(),
         _ => 0,
-    };
-    for _ in 0..kept {
-        out.push_slice(b"*")?;
+    }
+}
+
+/// The printed errors, or an asterisk for each item or entry that is kept.
+fn shown(alloc: Global, outcome: &Outcome) -> Result<ByteBuf, Memory> {
+    let mut out = ByteBuf::new(alloc);
+    match outcome {
+        Outcome::Bad(errors) => write_faults(errors, &mut out)?,
+        Outcome::Good { value, .. } => {
+            for _ in 0..kept(value) {
+                out.push_slice(b"*")?;
+            }
+        }
     }
     Ok(out)
 }
@@ -93,7 +92,7 @@ fn gathered(
     for code in codes {
         gather = gather.item(outcome(alloc, *code)?, &Tree::Null)?;
     }
-    shown(alloc, gather.finish(&Tree::array(alloc, trees)?)?)
+    shown(alloc, &gather.finish(&Tree::array(alloc, trees)?)?)
 }
 
 /// What an object of these members gives, by their names and the outcomes of their keys and values.
@@ -105,7 +104,7 @@ fn paired(alloc: Global, rule: &GatherRule, pairs: &[(&str, u8, u8)]) -> Result<
         gather = gather.pair(&name, outcome(alloc, *key)?, outcome(alloc, *value)?)?;
         members.push((name, Tree::Null))?;
     }
-    shown(alloc, gather.finish(&Tree::object(alloc, members)?)?)
+    shown(alloc, &gather.finish(&Tree::object(alloc, members)?)?)
 }
 
 #[test]
