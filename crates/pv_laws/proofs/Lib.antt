@@ -1,0 +1,4 @@
+pub mod LocatedParts
+pub mod Locating
+pub mod Keeping
+pub mod GoodPatterns

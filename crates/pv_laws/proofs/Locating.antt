@@ -1,0 +1,115 @@
+-- The location of each error leads to its input.
+use Rattle.std.proofs.Common.{◌≡◌, ℕ, zero, suc, Bool, Option, None, Some, Ok, Err, List, [], ◌∷◌, ◌++◌, map, flat_map, length, slice_get, refl, ap, arith}
+use Rattle.std.proofs.lemmas.List.Elements.{All-contains_itself, recursion_from_All}
+use Rattle.std.specs.List.{Contains}
+use Rattle.pv_tree.specs.declared.Tree.{Tree, out-Tree}
+use Rattle.pv_tree.specs.declared.Tree.TheOpen.{Tree-F}
+use Rattle.pv_tree.specs.declared.Value.{Value}
+use Rattle.pv_rules.specs.Settings.{plain}
+use Rattle.pv_rules.specs.declared.Collection.{Collection}
+use Rattle.pv_rules.specs.declared.Collection.TheVariants as kinds
+use Rattle.pv_rules.specs.declared.GatherRule.{GatherRule}
+use Rattle.pv_fault.specs.declared.Kind.{Kind}
+use Rattle.pv_fault.specs.declared.LineError.{LineError}
+use Rattle.pv_fault.specs.declared.Kind.TheVariants as kind
+use Rattle.pv_fault.specs.declared.Outcome.{Outcome}
+use Rattle.pv_node.specs.declared.Node.{Node}
+use Rattle.pv_node.specs.declared.Body.{Body}
+use Rattle.pv_node.specs.declared.Body.TheOpen.{Body-F}
+use Rattle.pv_node.specs.Preorder.{body_of}
+use Rattle.pv_plan.specs.Records.{or_any, own_strict}
+use Rattle.pv_scalar.specs.Tests.{Graded, outcome_of}
+use Rattle.pv_scalar.specs.Scalars.{scalar_of, answer_of}
+use Rattle.pv_collect.specs.Gathering.{Part, Pair, items_errors, missing_of, wanted, measured, unless_errors, type_error, pair_errors, gather_items, gather_pairs}
+use Rattle.pv_engine.specs.Rules.{Child, one_error, part, placed, pair, sequence, sequence_at, tuple, tuple_at, dict, dict_at, first, second, collection, collection_of, nullable, nullable_at}
+use Rattle.pv_engine.specs.Meaning.{meaning, node, node_at, strict_in}
+use Rattle.pv_laws.specs.Located.{OfEach, IsOutcomeOf}
+use Rattle.pv_laws.proofs.LocatedParts.{IsAt, Locates, AreParts, each_append, here, items_located, sequence_parts, tuple_parts, missing_located, pairs_located}
+
+-- one error at the tree itself
+one_located : (k : Kind) (t : Tree) → IsOutcomeOf t (one_error k t)
+one_located k t = record { some = omega arith; located = (here t k, tt) }
+
+unless_located : (t : Tree) (es : List LineError) (whole : Outcome) → OfEach (IsAt t) es → IsOutcomeOf t whole → IsOutcomeOf t (unless_errors es whole)
+unless_located t [] whole h is = is
+unless_located t (e ∷ es) whole h is = record { some = omega arith; located = h }
+
+measured_located : (o : Option Kind) (t : Tree) (whole : Outcome) → IsOutcomeOf t whole → IsOutcomeOf t (measured o t whole)
+measured_located None t whole h = h
+measured_located (Some k) t whole h = one_located k t
+
+-- an array by its parts, and an object by its pairs
+array_located : (r : GatherRule) (t : Tree) (ts : List Tree) (ps : List Part) → out-Tree t ≡ Tree-F.Array ts → AreParts t 0 ps → IsOutcomeOf t (gather_items r (length ts) t ps)
+unfolding gather_items
+array_located r t ts ps opens are =
+    unless_located t (items_errors r.kind 0 ps ++ missing_of (wanted r (length ts)) (length ts) t) _
+    (each_append (IsAt t) (items_errors r.kind 0 ps) (missing_of (wanted r (length ts)) (length ts) t) (items_located r.kind t 0 ps are) (missing_located t ts opens (wanted r (length ts))))
+    (search measured_located)
+
+object_located : (r : GatherRule) (t : Tree) (ps : List Pair) → OfEach (IsAt t) (flat_map pair_errors ps) → IsOutcomeOf t (gather_pairs r t ps)
+unfolding gather_pairs
+object_located r t ps are = unless_located t (flat_map pair_errors ps) _ are (search measured_located)
+
+-- a tree by its opened level
+sequence_located : (r : GatherRule) (item : Child) → Locates item → (t : Tree) (x : Tree-F Tree) → out-Tree t ≡ x → IsOutcomeOf t (sequence_at r item t x)
+sequence_located r item is t (Tree-F.Array ts) opens =
+    array_located r t ts (map (part item) ts) opens (sequence_parts t ts opens item is 0 ts (λ j k e. ap (slice_get ts) (omega arith)))
+sequence_located r item is t x opens = one_located (type_error r.kind) t
+
+tuple_located : (r : GatherRule) (children : List Child) → OfEach Locates children → (t : Tree) (x : Tree-F Tree) → out-Tree t ≡ x → IsOutcomeOf t (tuple_at r children t x)
+tuple_located r children are t (Tree-F.Array ts) opens =
+    array_located r t ts (placed r children (length ts) 0 ts) opens (tuple_parts t ts opens r children are (length ts) 0 ts (λ j k e. ap (slice_get ts) (omega arith)))
+tuple_located r children are t x opens = one_located (type_error r.kind) t
+
+dict_located : (r : GatherRule) (key value : Child) → Locates key → Locates value → (t : Tree) (x : Tree-F Tree) → out-Tree t ≡ x → IsOutcomeOf t (dict_at r key value t x)
+dict_located r key value keys values t (Tree-F.Object ms) opens =
+    object_located r t (map (pair key value) ms) (pairs_located t ms opens key value keys values ms (recursion_from_All (Contains ms) ms (All-contains_itself ms)))
+dict_located r key value keys values t x opens = one_located (type_error r.kind) t
+
+-- a child that is not there gives one error too
+first_located : (children : List Child) → OfEach Locates children → Locates (first children)
+first_located [] are = λ t. one_located kind.RecursionLoop t
+first_located (c ∷ cs) are = are.0
+
+second_located : (children : List Child) → OfEach Locates children → Locates (second children)
+second_located [] are = λ t. one_located kind.RecursionLoop t
+second_located (c ∷ cs) are = first_located cs are.1
+
+by_kind : (k : Collection) (r : GatherRule) (children : List Child) → OfEach Locates children → Locates (collection_of k r children)
+unfolding sequence tuple dict
+by_kind kinds.List r children are t = sequence_located r (first children) (first_located children are) t (out-Tree t) refl
+by_kind kinds.Set r children are t = sequence_located r (first children) (first_located children are) t (out-Tree t) refl
+by_kind kinds.Frozen r children are t = sequence_located r (first children) (first_located children are) t (out-Tree t) refl
+by_kind kinds.Tuple r children are t = tuple_located r children are t (out-Tree t) refl
+by_kind kinds.Dict r children are t = dict_located r (first children) (second children) (first_located children are) (second_located children are) t (out-Tree t) refl
+
+collection_located : (r : GatherRule) (children : List Child) → OfEach Locates children → Locates (collection r children)
+unfolding collection
+collection_located r = by_kind r.kind r
+
+nullable_located : (inner : Child) → Locates inner → (t : Tree) (x : Tree-F Tree) → IsOutcomeOf t (nullable_at inner t x)
+nullable_located inner is t Tree-F.Null = tt
+nullable_located inner is t x = is t
+
+scalar_located : (t : Tree) (answer : Graded Value) → IsOutcomeOf t (outcome_of t answer)
+scalar_located t (Ok x) = tt
+scalar_located t (Err k) = one_located k t
+
+all_locate : (child : Node → Child) → ((n : Node) → Locates (child n)) → (ns : List Node) → OfEach Locates (map child ns)
+all_locate child is [] = tt
+all_locate child is (n ∷ ns) = (is n, all_locate child is ns)
+
+-- a node whose children have their errors located
+body_located : (run : Option Bool) (child : Node → Child) → ((n : Node) → Locates (child n)) → (strict : Bool) (b : Body-F Body Node) → Locates (node_at run child strict b)
+unfolding scalar_of nullable
+body_located run child is strict (Body-F.Scalar r) t = scalar_located t (answer_of r plain (strict_in run strict) t)
+body_located run child is strict (Body-F.Sequence r items) t = collection_located r (child (or_any items) ∷ []) (is (or_any items), tt) t
+body_located run child is strict (Body-F.Tuple r items) t = collection_located r (map child items) (all_locate child is items) t
+body_located run child is strict (Body-F.Dict r keys values) t =
+    collection_located r (child (or_any keys) ∷ child (or_any values) ∷ []) (is (or_any keys), (is (or_any values), tt)) t
+body_located run child is strict (Body-F.Nullable inner) t = nullable_located (child inner) (is inner) t (out-Tree t)
+
+pub outcome_is_located : (run : Option Bool) (depth : ℕ) (schema : Node) (document : Tree) → IsOutcomeOf document (meaning run depth schema document)
+unfolding meaning node
+outcome_is_located run zero schema document = one_located kind.RecursionLoop document
+outcome_is_located run (suc depth) schema document = body_located run (meaning run depth) (outcome_is_located run depth) (own_strict schema) (body_of schema) document

@@ -1,0 +1,3 @@
+pub mod Located
+pub mod Kept
+pub mod Patterns

@@ -1,0 +1,49 @@
+-- What the location and the input of an error say of the document.
+use Rattle.std.specs.Prelude.{◌≡◌, ◌≤◌, ◌⊎◌, List, [], ◌∷◌, length, codes, Some, slice_get}
+use Rattle.std.specs.List.{Contains}
+use Rattle.pv_tree.specs.declared.Step.{Step}
+use Rattle.pv_tree.specs.declared.Step.TheVariants.{Name, Index}
+use Rattle.pv_tree.specs.declared.Tree.{Tree, out-Tree}
+use Rattle.pv_tree.specs.declared.Tree.TheVariants as tree
+use Rattle.pv_tree.specs.declared.Tree.TheOpen.{Tree-F}
+use Rattle.pv_fault.specs.declared.LineError.{LineError}
+use Rattle.pv_fault.specs.declared.Outcome.{Outcome}
+use Rattle.pv_fault.specs.declared.Outcome.TheVariants.{Good, Bad}
+
+-- the step leads from a tree to a part of it: an item, or the value of a member
+abbrev pub IsPart : Step → Tree-F Tree → Tree → Type 0
+IsPart (Index i) (Tree-F.Array ts) part = slice_get ts i ≡ Some part
+IsPart (Name k) (Tree-F.Object ms) part = Contains ms (k, part)
+IsPart step x part = ⊥
+
+-- the location is that of an item which an array lacks
+abbrev pub IsLacking : List Step → Tree-F Tree → Type 0
+IsLacking (Index i ∷ []) (Tree-F.Array ts) = length ts ≤ i
+IsLacking loc x = ⊥
+
+-- the location is that of the key of a member, which is this text
+abbrev pub IsKey : List Step → Tree-F Tree → Tree → Type 0
+IsKey (Name k ∷ mark ∷ []) (Tree-F.Object ms) input = (mark ≡ Name (codes "[key]")) × (input ≡ tree.Str k) × ((part : Tree) × Contains ms (k, part))
+IsKey loc x input = ⊥
+
+-- The location leads from the document to the input. At its end stands, in place of a part, the whole array where an item is lacking, or the text of a member's key.
+unfoldable pub IsLocated : List Step → Tree → Tree → Type 0
+IsLocated [] document input = input ≡ document
+IsLocated (step ∷ loc) document input =
+    ((part : Tree) × IsPart step (out-Tree document) part × IsLocated loc part input)
+    ⊎ ((IsLacking (step ∷ loc) (out-Tree document) × (input ≡ document))
+    ⊎ IsKey (step ∷ loc) (out-Tree document) input)
+
+-- a fact of each
+abbrev pub OfEach : {X : Type 0} → (X → Type 0) → List X → Type 0
+OfEach P [] = Unit {0}
+OfEach P (x ∷ xs) = P x × OfEach P xs
+
+-- at least one error, and each is located in the document
+pub record AreErrorsOf (document : Tree) (errors : List LineError) : Type 0 where
+  pub some : 1 ≤ length errors
+  pub located : OfEach (λ e. IsLocated e.loc document e.input) errors
+
+abbrev pub IsOutcomeOf : Tree → Outcome → Type 0
+IsOutcomeOf document (Good v g n) = Unit {0}
+IsOutcomeOf document (Bad errors) = AreErrorsOf document errors
