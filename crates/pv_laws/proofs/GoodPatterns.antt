@@ -1,6 +1,6 @@
 -- The patterns of a schema, node by node.
 use Rattle.std.proofs.Common.{◌≡◌, ◌↔◌, ℕ, zero, suc, ◌+◌, ◌≤◌, Bool, true, false, List, [], ◌∷◌, ◌++◌, codes, Option, None, Some, if◌then◌else◌, refl, ap, sym, subst, ◌∙◌, arith}
-use Rattle.std.specs.List.{flat_map}
+use Rattle.std.specs.List.{AllByRecursion, flat_map}
 use Rattle.pv_tree.specs.declared.Step.TheVariants.{Name, Index}
 use Rattle.pv_node.specs.declared.Node.{Node}
 use Rattle.pv_node.specs.declared.Body.{Body}
@@ -11,7 +11,6 @@ use Rattle.pv_node.proofs.Counts.{one_more, first_and_rest}
 use Rattle.pv_plan.specs.BadPatterns.{Path, bad_pattern, behind, first_of, in_positions, rule_is_bad}
 use Rattle.pv_plan.specs.Searching.{in_itself, in_children}
 use Rattle.pv_plan.proofs.Openings.{search_opens}
-use Rattle.pv_laws.specs.Located.{OfEach}
 use Rattle.pv_laws.specs.Patterns.{HasGoodPattern, HasGoodPatternAt}
 
 abbrev IsGood : Node → Type 0
@@ -36,7 +35,7 @@ both_none : (a b : Option Path) → a ≡ None → b ≡ None → first_of a b �
 both_none None b e f = f
 both_none (Some path) b e f = cc
 
-positions_good : (i : ℕ) (ns : List Node) → in_positions bad_pattern i ns ≡ None → OfEach IsGood ns
+positions_good : (i : ℕ) (ns : List Node) → in_positions bad_pattern i ns ≡ None → AllByRecursion IsGood ns
 positions_good i [] e = tt
 positions_good i (n ∷ ns) e =
     let steps = Name (codes "items_schema") ∷ Index i ∷ [] in (
@@ -44,7 +43,7 @@ positions_good i (n ∷ ns) e =
       positions_good (i + 1) ns (right_none (behind steps (bad_pattern n)) (in_positions bad_pattern (i + 1) ns) e),
     )
 
-good_positions : (i : ℕ) (ns : List Node) → OfEach IsGood ns → in_positions bad_pattern i ns ≡ None
+good_positions : (i : ℕ) (ns : List Node) → AllByRecursion IsGood ns → in_positions bad_pattern i ns ≡ None
 good_positions i [] h = refl
 good_positions i (n ∷ ns) h =
     let steps = Name (codes "items_schema") ∷ Index i ∷ [] in
@@ -65,7 +64,7 @@ at_values = under_key (codes "values_schema")
 abbrev at_schema : Path
 at_schema = under_key (codes "schema")
 
-children_good : (b : Body-F Body Node) → in_children bad_pattern b ≡ None → OfEach IsGood (parts_at b)
+children_good : (b : Body-F Body Node) → in_children bad_pattern b ≡ None → AllByRecursion IsGood (parts_at b)
 children_good (Body-F.Scalar r) e = tt
 children_good (Body-F.Sequence r None) e = tt
 children_good (Body-F.Sequence r (Some n)) e = (behind_none at_items (bad_pattern n) e, tt)
@@ -79,7 +78,7 @@ children_good (Body-F.Dict r (Some m) (Some n)) e =
     (behind_none at_keys (bad_pattern m) (left_none keys values e), (behind_none at_values (bad_pattern n) (right_none keys values e), tt))
 children_good (Body-F.Nullable n) e = (behind_none at_schema (bad_pattern n) e, tt)
 
-good_children : (b : Body-F Body Node) → OfEach IsGood (parts_at b) → in_children bad_pattern b ≡ None
+good_children : (b : Body-F Body Node) → AllByRecursion IsGood (parts_at b) → in_children bad_pattern b ≡ None
 good_children (Body-F.Scalar r) h = refl
 good_children (Body-F.Sequence r None) h = refl
 good_children (Body-F.Sequence r (Some n)) h = none_behind at_items (bad_pattern n) h.0
@@ -113,38 +112,38 @@ good_itself (Body-F.Tuple r items) h = refl
 good_itself (Body-F.Dict r keys values) h = refl
 good_itself (Body-F.Nullable n) h = refl
 
-each_of_both : (P : Node → Type 0) (xs ys : List Node) → OfEach P xs → OfEach P ys → OfEach P (xs ++ ys)
+each_of_both : (P : Node → Type 0) (xs ys : List Node) → AllByRecursion P xs → AllByRecursion P ys → AllByRecursion P (xs ++ ys)
 each_of_both P [] ys h k = k
 each_of_both P (x ∷ xs) ys h k = (h.0, each_of_both P xs ys h.1 k)
 
-each_of_front : (P : Node → Type 0) (xs ys : List Node) → OfEach P (xs ++ ys) → OfEach P xs
+each_of_front : (P : Node → Type 0) (xs ys : List Node) → AllByRecursion P (xs ++ ys) → AllByRecursion P xs
 each_of_front P [] ys h = tt
 each_of_front P (x ∷ xs) ys h = (h.0, each_of_front P xs ys h.1)
 
-each_of_back : (P : Node → Type 0) (xs ys : List Node) → OfEach P (xs ++ ys) → OfEach P ys
+each_of_back : (P : Node → Type 0) (xs ys : List Node) → AllByRecursion P (xs ++ ys) → AllByRecursion P ys
 each_of_back P [] ys h = h
 each_of_back P (x ∷ xs) ys h = each_of_back P xs ys h.1
 
-all_good : (k : ℕ) → ((n : Node) → node_count n ≤ k → IsGood n → OfEach HasGoodPattern (preorder n))
-    → (ns : List Node) → nodes_count ns ≤ k → OfEach IsGood ns → OfEach HasGoodPattern (flat_map preorder ns)
+all_good : (k : ℕ) → ((n : Node) → node_count n ≤ k → IsGood n → AllByRecursion HasGoodPattern (preorder n))
+    → (ns : List Node) → nodes_count ns ≤ k → AllByRecursion IsGood ns → AllByRecursion HasGoodPattern (flat_map preorder ns)
 all_good k inner [] l h = tt
 all_good k inner (n ∷ ns) l h =
     let c = first_and_rest n ns in
     each_of_both HasGoodPattern (preorder n) (flat_map preorder ns) (inner n (omega (arith, l, c)) h.0) (all_good k inner ns (omega (arith, l, c)) h.1)
 
 -- of schemas of at most so many nodes
-good_below : (k : ℕ) (n : Node) → node_count n ≤ k → IsGood n → OfEach HasGoodPattern (preorder n)
+good_below : (k : ℕ) (n : Node) → node_count n ≤ k → IsGood n → AllByRecursion HasGoodPattern (preorder n)
 good_below zero n l e = let c = one_more n in absurd (omega (arith, l, c))
 good_below (suc k) n l e =
     let c = one_more n in
     let f = sym (search_opens n) ∙ e in
-    subst (OfEach HasGoodPattern) (sym (opens n)) (
+    subst (AllByRecursion HasGoodPattern) (sym (opens n)) (
       itself_good (body_of n) (left_none (in_itself (body_of n)) (in_children bad_pattern (body_of n)) f),
       all_good k (good_below k) (parts n) (omega (arith, l, c)) (children_good (body_of n) (right_none (in_itself (body_of n)) (in_children bad_pattern (body_of n)) f)),
     )
 
-good_all : (k : ℕ) → ((n : Node) → node_count n ≤ k → OfEach HasGoodPattern (preorder n) → IsGood n)
-    → (ns : List Node) → nodes_count ns ≤ k → OfEach HasGoodPattern (flat_map preorder ns) → OfEach IsGood ns
+good_all : (k : ℕ) → ((n : Node) → node_count n ≤ k → AllByRecursion HasGoodPattern (preorder n) → IsGood n)
+    → (ns : List Node) → nodes_count ns ≤ k → AllByRecursion HasGoodPattern (flat_map preorder ns) → AllByRecursion IsGood ns
 good_all k inner [] l h = tt
 good_all k inner (n ∷ ns) l h =
     let c = first_and_rest n ns in (
@@ -152,13 +151,13 @@ good_all k inner (n ∷ ns) l h =
       good_all k inner ns (omega (arith, l, c)) (each_of_back HasGoodPattern (preorder n) (flat_map preorder ns) h),
     )
 
-below_good : (k : ℕ) (n : Node) → node_count n ≤ k → OfEach HasGoodPattern (preorder n) → IsGood n
+below_good : (k : ℕ) (n : Node) → node_count n ≤ k → AllByRecursion HasGoodPattern (preorder n) → IsGood n
 below_good zero n l h = let c = one_more n in absurd (omega (arith, l, c))
 below_good (suc k) n l h =
     let c = one_more n in
-    let g = subst (OfEach HasGoodPattern) (opens n) h in
+    let g = subst (AllByRecursion HasGoodPattern) (opens n) h in
     search_opens n
     ∙ both_none (in_itself (body_of n)) (in_children bad_pattern (body_of n)) (good_itself (body_of n) g.0) (good_children (body_of n) (good_all k (below_good k) (parts n) (omega (arith, l, c)) g.1))
 
-pub good_throughout : (root : Node) → (bad_pattern root ≡ None) ↔ OfEach HasGoodPattern (preorder root)
+pub good_throughout : (root : Node) → (bad_pattern root ≡ None) ↔ AllByRecursion HasGoodPattern (preorder root)
 good_throughout root = (good_below (node_count root) root (omega arith), below_good (node_count root) root (omega arith))

@@ -1,12 +1,11 @@
 -- What sets and dicts keep, value by value.
 use Rattle.std.proofs.Common.{◌≡◌, ℕ, zero, suc, ◌<◌, Bool, true, false, ◌||◌, List, [], ◌∷◌, ◌++◌, map, length, if◌then◌else◌, slice_index_or, refl, ap, subst, ◌∙◌, arith}
-use Rattle.std.specs.List.{Contains, list_any}
+use Rattle.std.specs.List.{AllByRecursion, Contains, list_any}
 use Rattle.pv_tree.specs.declared.Value.{Value}
 use Rattle.pv_equality.specs.Equality.{same}
 use Rattle.pv_equality.specs.Merging.{put_item, put_items, first_of_each, put_entry, put_entries, merged_entries}
 use Rattle.pv_equality.proofs.Levels.{same_refl}
 use Rattle.pv_equality.proofs.Merging.{keys_more}
-use Rattle.pv_laws.specs.Located.{OfEach}
 use Rattle.pv_laws.specs.Kept.{AreDistinct, HasSame, AreKept}
 
 abbrev put_by : Bool → List Value → Value → List Value
@@ -77,7 +76,7 @@ has_put : (b : Bool) (kept : List Value) (v : Value) → list_any (λ k. same k 
 has_put true kept v e = e
 has_put false kept v e = any_last (λ k. same k v) kept v (same_refl v)
 
-has_all : (kept vs : List Value) → OfEach (HasSame (put_items kept vs)) vs
+has_all : (kept vs : List Value) → AllByRecursion (HasSame (put_items kept vs)) vs
 has_all kept [] = tt
 has_all kept (v ∷ vs) = (still_all (λ k. same k v) (put_item kept v) vs (has_put (list_any (λ k. same k v) kept) kept v refl), has_all (put_item kept v) vs)
 
@@ -86,28 +85,28 @@ unfolding first_of_each
 keeps vs = record { distinct = distinct_all [] vs tt; whole = has_all [] vs }
 
 module _ (P : Value → Type 0) where
-  each_more : (kept : List Value) (v : Value) → OfEach P kept → P v → OfEach P (kept ++ v ∷ [])
+  each_more : (kept : List Value) (v : Value) → AllByRecursion P kept → P v → AllByRecursion P (kept ++ v ∷ [])
   each_more [] v ps p = (p, tt)
   each_more (k ∷ ks) v ps p = (ps.0, each_more ks v ps.1 p)
 
-  each_put : (b : Bool) (kept : List Value) (v : Value) → OfEach P kept → P v → OfEach P (put_by b kept v)
+  each_put : (b : Bool) (kept : List Value) (v : Value) → AllByRecursion P kept → P v → AllByRecursion P (put_by b kept v)
   each_put true kept v ps p = ps
   each_put false kept v ps p = each_more kept v ps p
 
-  each_all : (kept vs : List Value) → OfEach P kept → OfEach P vs → OfEach P (put_items kept vs)
+  each_all : (kept vs : List Value) → AllByRecursion P kept → AllByRecursion P vs → AllByRecursion P (put_items kept vs)
   each_all kept [] ps qs = ps
   each_all kept (v ∷ vs) ps qs = each_all (put_item kept v) vs (each_put (list_any (λ k. same k v) kept) kept v ps qs.0) qs.1
 
-  at_place : (xs : List Value) (k : ℕ) (x : Value) → OfEach P xs → k < length xs → P (slice_index_or xs k x)
+  at_place : (xs : List Value) (k : ℕ) (x : Value) → AllByRecursion P xs → k < length xs → P (slice_index_or xs k x)
   at_place [] k x ps l = absurd (omega arith)
   at_place (y ∷ ys) zero x ps l = ps.0
   at_place (y ∷ ys) (suc k) x ps l = at_place ys k x ps.1 (omega arith)
 
-each_behind : (y : Value) (ys xs : List Value) → OfEach (Contains ys) xs → OfEach (Contains (y ∷ ys)) xs
+each_behind : (y : Value) (ys xs : List Value) → AllByRecursion (Contains ys) xs → AllByRecursion (Contains (y ∷ ys)) xs
 each_behind y ys [] ps = tt
 each_behind y ys (x ∷ xs) ps = ((suc ps.0.0, omega arith, ps.0.2), each_behind y ys xs ps.1)
 
-each_contained : (vs : List Value) → OfEach (Contains vs) vs
+each_contained : (vs : List Value) → AllByRecursion (Contains vs) vs
 each_contained [] = tt
 each_contained (v ∷ vs) = ((zero, omega arith, refl), each_behind v vs vs (each_contained vs))
 

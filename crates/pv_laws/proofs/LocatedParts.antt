@@ -17,7 +17,7 @@ use Rattle.pv_fault.specs.Under.{under, all_under}
 use Rattle.pv_equality.specs.Hashable.{hashable}
 use Rattle.pv_collect.specs.Gathering.{Part, needs_hash, errors_of, error_here, item_errors, items_errors, key_errors, pair_errors, missing_from, missing_of}
 use Rattle.pv_engine.specs.Rules.{Child, part, position_of, placed, placed_by, pair}
-use Rattle.pv_laws.specs.Located.{IsPart, IsLacking, IsKey, IsLocated, OfEach, IsOutcomeOf}
+use Rattle.pv_laws.specs.Located.{IsPart, IsLacking, IsKey, IsLocated, IsOutcomeOf}
 
 -- the location of an error leads from the tree to its input
 abbrev pub IsAt : Tree → LineError → Type 0
@@ -32,19 +32,19 @@ abbrev WhereThere : {X : Type 0} → (X → Type 0) → Option X → Type 0
 WhereThere P None = Unit {0}
 WhereThere P (Some x) = P x
 
-pub each_append : {X : Type 0} (P : X → Type 0) (xs ys : List X) → OfEach P xs → OfEach P ys → OfEach P (xs ++ ys)
+pub each_append : {X : Type 0} (P : X → Type 0) (xs ys : List X) → AllByRecursion P xs → AllByRecursion P ys → AllByRecursion P (xs ++ ys)
 each_append P [] ys h k = k
 each_append P (x ∷ xs) ys h k = (h.0, each_append P xs ys h.1 k)
 
-each_map : {X Y : Type 0} (P : Y → Type 0) (f : X → Y) (xs : List X) → OfEach (λ x. P (f x)) xs → OfEach P (map f xs)
+each_map : {X Y : Type 0} (P : Y → Type 0) (f : X → Y) (xs : List X) → AllByRecursion (λ x. P (f x)) xs → AllByRecursion P (map f xs)
 each_map P f [] h = tt
 each_map P f (x ∷ xs) h = (h.0, each_map P f xs h.1)
 
-each_more : {X : Type 0} (P Q : X → Type 0) → ((x : X) → P x → Q x) → (xs : List X) → OfEach P xs → OfEach Q xs
+each_more : {X : Type 0} (P Q : X → Type 0) → ((x : X) → P x → Q x) → (xs : List X) → AllByRecursion P xs → AllByRecursion Q xs
 each_more P Q more [] h = tt
 each_more P Q more (x ∷ xs) h = (more x h.0, each_more P Q more xs h.1)
 
-found_is : {X : Type 0} (P : X → Type 0) (xs : List X) (i : ℕ) → OfEach P xs → WhereThere P (slice_get xs i)
+found_is : {X : Type 0} (P : X → Type 0) (xs : List X) (i : ℕ) → AllByRecursion P xs → WhereThere P (slice_get xs i)
 found_is P [] i h = tt
 found_is P (x ∷ xs) zero h = h.0
 found_is P (x ∷ xs) (suc i) h = found_is P xs i h.1
@@ -54,12 +54,12 @@ pub here : (t : Tree) (k : Kind) → IsAt t (error_here k t)
 unfolding IsLocated
 here t k = refl
 
-errors_located : (t : Tree) (o : Outcome) → IsOutcomeOf t o → OfEach (IsAt t) (errors_of o)
+errors_located : (t : Tree) (o : Outcome) → IsOutcomeOf t o → AllByRecursion (IsAt t) (errors_of o)
 errors_located t (Good v g n) h = tt
 errors_located t (Bad es) h = h.located
 
 -- errors in a part, under the step to it
-located_under : (t part : Tree) (step : Step) → IsPart step (out-Tree t) part → (es : List LineError) → OfEach (IsAt part) es → OfEach (IsAt t) (all_under step es)
+located_under : (t part : Tree) (step : Step) → IsPart step (out-Tree t) part → (es : List LineError) → AllByRecursion (IsAt part) es → AllByRecursion (IsAt t) (all_under step es)
 unfolding IsLocated
 located_under t part step is es h =
     each_map (IsAt t) (under step) es
@@ -71,19 +71,19 @@ AreParts t i [] = Unit {0}
 AreParts t i (p ∷ ps) = IsPart (Index i) (out-Tree t) p.input × IsOutcomeOf p.input p.outcome × AreParts t (i + 1) ps
 
 -- one error at the tree, or none
-one_where : (b : Bool) (t : Tree) (k : Kind) → OfEach (IsAt t) (if b then error_here k t ∷ [] else [])
+one_where : (b : Bool) (t : Tree) (k : Kind) → AllByRecursion (IsAt t) (if b then error_here k t ∷ [] else [])
 one_where true t k = (here t k, tt)
 one_where false t k = tt
 
-one_unless : (b : Bool) (t : Tree) (k : Kind) → OfEach (IsAt t) (if b then [] else error_here k t ∷ [])
+one_unless : (b : Bool) (t : Tree) (k : Kind) → AllByRecursion (IsAt t) (if b then [] else error_here k t ∷ [])
 one_unless true t k = tt
 one_unless false t k = (here t k, tt)
 
-item_located : (k : Collection) (t : Tree) (o : Outcome) → IsOutcomeOf t o → OfEach (IsAt t) (item_errors k t o)
+item_located : (k : Collection) (t : Tree) (o : Outcome) → IsOutcomeOf t o → AllByRecursion (IsAt t) (item_errors k t o)
 item_located k t (Good v g n) h = one_where (needs_hash k && not (hashable v)) t _
 item_located k t (Bad es) h = h.located
 
-pub items_located : (k : Collection) (t : Tree) (i : ℕ) (ps : List Part) → AreParts t i ps → OfEach (IsAt t) (items_errors k i ps)
+pub items_located : (k : Collection) (t : Tree) (i : ℕ) (ps : List Part) → AreParts t i ps → AllByRecursion (IsAt t) (items_errors k i ps)
 items_located k t i [] h = tt
 items_located k t i (p ∷ ps) h =
     each_append (IsAt t) (all_under (Index i) (item_errors k p.input p.outcome)) (items_errors k (i + 1) ps)
@@ -107,7 +107,7 @@ module _ (t : Tree) (all : List Tree) (opens : out-Tree t ≡ Tree-F.Array all) 
   placed_part None is i u ps at h = tt
   placed_part (Some child) is i u ps at h = (is_item i u at, is u, h)
 
-  pub tuple_parts : (r : GatherRule) (children : List Child) → OfEach Locates children → (items i : ℕ) (ts : List Tree) → IsRest i ts → AreParts t i (placed r children items i ts)
+  pub tuple_parts : (r : GatherRule) (children : List Child) → AllByRecursion Locates children → (items i : ℕ) (ts : List Tree) → IsRest i ts → AreParts t i (placed r children items i ts)
   tuple_parts r children is items i [] rest = tt
   tuple_parts r children is items i (u ∷ ts) rest =
       let position = position_of r.variadic_item_index r.positions items i in
@@ -115,13 +115,13 @@ module _ (t : Tree) (all : List Tree) (opens : out-Tree t ≡ Tree-F.Array all) 
       (tuple_parts r children is items (i + 1) ts (λ j k e. rest (suc j) k (omega arith)))
 
   -- the input of an error of a lacking item is the whole array
-  missing_located_from : (i n : ℕ) → length all ≤ i → OfEach (IsAt t) (missing_from i n t)
+  missing_located_from : (i n : ℕ) → length all ≤ i → AllByRecursion (IsAt t) (missing_from i n t)
   unfolding IsLocated
   missing_located_from i zero past = tt
   missing_located_from i (suc n) past =
       (inr (inl (subst (IsLacking (Index i ∷ [])) (sym opens) past, refl)), missing_located_from (i + 1) n (omega arith))
 
-  pub missing_located : (o : Option ℕ) → OfEach (IsAt t) (missing_of o (length all) t)
+  pub missing_located : (o : Option ℕ) → AllByRecursion (IsAt t) (missing_of o (length all) t)
   missing_located None = tt
   missing_located (Some n) = missing_located_from (length all) (n - length all) (omega arith)
 
@@ -155,7 +155,7 @@ at_text text (step ∷ loc) input h =
     (λ p. no_key text step loc input (subst (λ x. IsKey (step ∷ loc) x input) (opens_text text) p)))
     h)
 
-key_located : (name : List ℕ) (o : Outcome) → IsOutcomeOf (tree.Str name) o → OfEach (IsAt (tree.Str name)) (key_errors name o)
+key_located : (name : List ℕ) (o : Outcome) → IsOutcomeOf (tree.Str name) o → AllByRecursion (IsAt (tree.Str name)) (key_errors name o)
 key_located name (Good v g n) h = one_unless (hashable v) (tree.Str name) _
 key_located name (Bad es) h = h.located
 
@@ -173,7 +173,7 @@ module _ (t : Tree) (all : List (List ℕ × Tree)) (opens : out-Tree t ≡ Tree
   unfolding IsLocated
   is_value m within e h = inl (m.1, subst (λ x. IsPart (Name m.0) x m.1) (sym opens) within, h)
 
-  pair_located : (key value : Child) → Locates key → Locates value → (m : List ℕ × Tree) → Contains all m → OfEach (IsAt t) (pair_errors (pair key value m))
+  pair_located : (key value : Child) → Locates key → Locates value → (m : List ℕ × Tree) → Contains all m → AllByRecursion (IsAt t) (pair_errors (pair key value m))
   pair_located key value keys values m within =
       let at = under (Name m.0) in
       let mark = under (Name (codes "[key]")) in
@@ -186,7 +186,7 @@ module _ (t : Tree) (all : List (List ℕ × Tree)) (opens : out-Tree t ≡ Tree
       (each_more (IsAt m.1) there (is_value m within) value_part (errors_located m.1 (value m.1) (values m.1))))
 
   pub pairs_located : (key value : Child) → Locates key → Locates value → (ms : List (List ℕ × Tree)) → AllByRecursion (Contains all) ms
-      → OfEach (IsAt t) (flat_map pair_errors (map (pair key value) ms))
+      → AllByRecursion (IsAt t) (flat_map pair_errors (map (pair key value) ms))
   pairs_located key value keys values [] within = tt
   pairs_located key value keys values (m ∷ ms) within =
       each_append (IsAt t) (pair_errors (pair key value m)) (flat_map pair_errors (map (pair key value) ms)) (pair_located key value keys values m within.0)

@@ -1,7 +1,7 @@
 -- The location of each error leads to its input.
 use Rattle.std.proofs.Common.{◌≡◌, ℕ, zero, suc, Bool, Option, None, Some, Ok, Err, List, [], ◌∷◌, ◌++◌, map, flat_map, length, slice_get, refl, ap, arith}
 use Rattle.std.proofs.lemmas.List.Elements.{All-contains_itself, recursion_from_All}
-use Rattle.std.specs.List.{Contains}
+use Rattle.std.specs.List.{AllByRecursion, Contains}
 use Rattle.pv_tree.specs.declared.Tree.{Tree, out-Tree}
 use Rattle.pv_tree.specs.declared.Tree.TheOpen.{Tree-F}
 use Rattle.pv_tree.specs.declared.Value.{Value}
@@ -23,14 +23,14 @@ use Rattle.pv_scalar.specs.Scalars.{scalar_of, answer_of}
 use Rattle.pv_collect.specs.Gathering.{Part, Pair, items_errors, missing_of, wanted, measured, unless_errors, type_error, pair_errors, gather_items, gather_pairs}
 use Rattle.pv_engine.specs.Rules.{Child, one_error, part, placed, pair, sequence, sequence_at, tuple, tuple_at, dict, dict_at, first, second, collection, collection_of, nullable, nullable_at}
 use Rattle.pv_engine.specs.Meaning.{meaning, node, node_at, strict_in}
-use Rattle.pv_laws.specs.Located.{OfEach, IsOutcomeOf}
+use Rattle.pv_laws.specs.Located.{IsOutcomeOf}
 use Rattle.pv_laws.proofs.LocatedParts.{IsAt, Locates, AreParts, each_append, here, items_located, sequence_parts, tuple_parts, missing_located, pairs_located}
 
 -- one error at the tree itself
 one_located : (k : Kind) (t : Tree) → IsOutcomeOf t (one_error k t)
 one_located k t = record { some = omega arith; located = (here t k, tt) }
 
-unless_located : (t : Tree) (es : List LineError) (whole : Outcome) → OfEach (IsAt t) es → IsOutcomeOf t whole → IsOutcomeOf t (unless_errors es whole)
+unless_located : (t : Tree) (es : List LineError) (whole : Outcome) → AllByRecursion (IsAt t) es → IsOutcomeOf t whole → IsOutcomeOf t (unless_errors es whole)
 unless_located t [] whole h is = is
 unless_located t (e ∷ es) whole h is = record { some = omega arith; located = h }
 
@@ -46,7 +46,7 @@ array_located r t ts ps opens are =
     (each_append (IsAt t) (items_errors r.kind 0 ps) (missing_of (wanted r (length ts)) (length ts) t) (items_located r.kind t 0 ps are) (missing_located t ts opens (wanted r (length ts))))
     (search measured_located)
 
-object_located : (r : GatherRule) (t : Tree) (ps : List Pair) → OfEach (IsAt t) (flat_map pair_errors ps) → IsOutcomeOf t (gather_pairs r t ps)
+object_located : (r : GatherRule) (t : Tree) (ps : List Pair) → AllByRecursion (IsAt t) (flat_map pair_errors ps) → IsOutcomeOf t (gather_pairs r t ps)
 unfolding gather_pairs
 object_located r t ps are = unless_located t (flat_map pair_errors ps) _ are (search measured_located)
 
@@ -56,7 +56,7 @@ sequence_located r item is t (Tree-F.Array ts) opens =
     array_located r t ts (map (part item) ts) opens (sequence_parts t ts opens item is 0 ts (λ j k e. ap (slice_get ts) (omega arith)))
 sequence_located r item is t x opens = one_located (type_error r.kind) t
 
-tuple_located : (r : GatherRule) (children : List Child) → OfEach Locates children → (t : Tree) (x : Tree-F Tree) → out-Tree t ≡ x → IsOutcomeOf t (tuple_at r children t x)
+tuple_located : (r : GatherRule) (children : List Child) → AllByRecursion Locates children → (t : Tree) (x : Tree-F Tree) → out-Tree t ≡ x → IsOutcomeOf t (tuple_at r children t x)
 tuple_located r children are t (Tree-F.Array ts) opens =
     array_located r t ts (placed r children (length ts) 0 ts) opens (tuple_parts t ts opens r children are (length ts) 0 ts (λ j k e. ap (slice_get ts) (omega arith)))
 tuple_located r children are t x opens = one_located (type_error r.kind) t
@@ -67,15 +67,15 @@ dict_located r key value keys values t (Tree-F.Object ms) opens =
 dict_located r key value keys values t x opens = one_located (type_error r.kind) t
 
 -- a child that is not there gives one error too
-first_located : (children : List Child) → OfEach Locates children → Locates (first children)
+first_located : (children : List Child) → AllByRecursion Locates children → Locates (first children)
 first_located [] are = λ t. one_located kind.RecursionLoop t
 first_located (c ∷ cs) are = are.0
 
-second_located : (children : List Child) → OfEach Locates children → Locates (second children)
+second_located : (children : List Child) → AllByRecursion Locates children → Locates (second children)
 second_located [] are = λ t. one_located kind.RecursionLoop t
 second_located (c ∷ cs) are = first_located cs are.1
 
-by_kind : (k : Collection) (r : GatherRule) (children : List Child) → OfEach Locates children → Locates (collection_of k r children)
+by_kind : (k : Collection) (r : GatherRule) (children : List Child) → AllByRecursion Locates children → Locates (collection_of k r children)
 unfolding sequence tuple dict
 by_kind kinds.List r children are t = sequence_located r (first children) (first_located children are) t (out-Tree t) refl
 by_kind kinds.Set r children are t = sequence_located r (first children) (first_located children are) t (out-Tree t) refl
@@ -83,7 +83,7 @@ by_kind kinds.Frozen r children are t = sequence_located r (first children) (fir
 by_kind kinds.Tuple r children are t = tuple_located r children are t (out-Tree t) refl
 by_kind kinds.Dict r children are t = dict_located r (first children) (second children) (first_located children are) (second_located children are) t (out-Tree t) refl
 
-collection_located : (r : GatherRule) (children : List Child) → OfEach Locates children → Locates (collection r children)
+collection_located : (r : GatherRule) (children : List Child) → AllByRecursion Locates children → Locates (collection r children)
 unfolding collection
 collection_located r = by_kind r.kind r
 
@@ -95,7 +95,7 @@ scalar_located : (t : Tree) (answer : Graded Value) → IsOutcomeOf t (outcome_o
 scalar_located t (Ok x) = tt
 scalar_located t (Err k) = one_located k t
 
-all_locate : (child : Node → Child) → ((n : Node) → Locates (child n)) → (ns : List Node) → OfEach Locates (map child ns)
+all_locate : (child : Node → Child) → ((n : Node) → Locates (child n)) → (ns : List Node) → AllByRecursion Locates (map child ns)
 all_locate child is [] = tt
 all_locate child is (n ∷ ns) = (is n, all_locate child is ns)
 

@@ -1,6 +1,6 @@
 -- What the location and the input of an error say of the document.
 use Rattle.std.specs.Prelude.{◌≡◌, ◌≤◌, ◌⊎◌, List, [], ◌∷◌, length, codes, Some, slice_get}
-use Rattle.std.specs.List.{Contains}
+use Rattle.std.specs.List.{AllByRecursion, Contains}
 use Rattle.pv_tree.specs.declared.Step.{Step}
 use Rattle.pv_tree.specs.declared.Step.TheVariants.{Name, Index}
 use Rattle.pv_tree.specs.declared.Tree.{Tree, out-Tree}
@@ -34,15 +34,10 @@ IsLocated (step ∷ loc) document input =
     ⊎ ((IsLacking (step ∷ loc) (out-Tree document) × (input ≡ document))
     ⊎ IsKey (step ∷ loc) (out-Tree document) input)
 
--- a fact of each
-abbrev pub OfEach : {X : Type 0} → (X → Type 0) → List X → Type 0
-OfEach P [] = Unit {0}
-OfEach P (x ∷ xs) = P x × OfEach P xs
-
 -- at least one error, and each is located in the document
 pub record AreErrorsOf (document : Tree) (errors : List LineError) : Type 0 where
   pub some : 1 ≤ length errors
-  pub located : OfEach (λ e. IsLocated e.loc document e.input) errors
+  pub located : AllByRecursion (λ e. IsLocated e.loc document e.input) errors
 
 abbrev pub IsOutcomeOf : Tree → Outcome → Type 0
 IsOutcomeOf document (Good v g n) = Unit {0}
