@@ -3,6 +3,8 @@ use Rattle.std.proofs.Common.{◌≡◌, ℕ, ◌<◌, true, false, List, [], le
 use Rattle.std.proofs.lemmas.Bool.{false≢true}
 use Rattle.std.proofs.lemmas.List.{length-map}
 use Rattle.std.proofs.lemmas.Grind.{flat_map-append}
+use Rattle.std.specs.List.{AllByRecursion}
+use Rattle.std.specs.Option.{IfSome}
 use Rattle.pv_tree.specs.declared.Tree.{Tree, out-Tree}
 use Rattle.pv_tree.specs.declared.Tree.TheOpen.{Tree-F}
 use Rattle.pv_rules.specs.declared.SubType.{SubType}
@@ -24,7 +26,7 @@ use Rattle.pv_schema.specs.Find.{find}
 use Rattle.pv_schema.specs.Table.{rows, kind_under}
 use Rattle.pv_schema.specs.Checking.{is_absent, misfit, misfits, place_fits, members_fit, is_below, are_of, all_are_of, items_size, size_of, checked}
 use Rattle.pv_schema.specs.Making.{node_of, nodes_of, nodes_level, or_empty, or_any, read, body_in, gather_rule, tuple_rule, enum_rule}
-use Rattle.pv_schema.specs.Allowed.{WhereThere, OfEach, HasItems, IsAllowed, IsAllowedBody, IsAllowedRule, IsSequence, IsEnum, AreBounds, HasNoPositions}
+use Rattle.pv_schema.specs.Allowed.{HasItems, IsAllowed, IsAllowedBody, IsAllowedRule, IsSequence, IsEnum, AreBounds, HasNoPositions}
 use Rattle.pv_schema.specs.declared.kind.Kind.TheVariants as kind
 use Rattle.pv_schema.specs.declared.node_type.NodeType.{NodeType}
 use Rattle.pv_schema.specs.declared.node_type.NodeType.TheVariants as node
@@ -34,7 +36,7 @@ use Rattle.pv_schema.proofs.AllowedKeys.{IsRight, right, each_append, is_there, 
 
 -- what a node asks for is allowed, and so are the nodes inside
 abbrev pub IsWhole : Body-F Body Node → Type 0
-IsWhole b = IsAllowedBody b × OfEach IsAllowed (flat_map preorder (parts_at b))
+IsWhole b = IsAllowedBody b × AllByRecursion IsAllowed (flat_map preorder (parts_at b))
 
 rolled : (b : Body) (x : Body-F Body Node) → roll-Body x ≡ b → IsWhole x → IsWhole (out-Body b)
 rolled b x e = subst IsWhole (sym (ap out-Body (sym e) ∙ out-roll-Body x))
@@ -43,7 +45,7 @@ scalar : (r : ScalarRule) → IsAllowedRule r → IsWhole (out-Body (body.Scalar
 scalar r h = rolled (body.Scalar r) (Body-F.Scalar r) (rolls-Scalar r) (h, tt)
 
 -- the variadic position is one of the positions
-below_is : (o : Option ℕ) (n : ℕ) → is_below o n ≡ true → WhereThere (λ v. v < n) o
+below_is : (o : Option ℕ) (n : ℕ) → is_below o n ≡ true → IfSome o (λ v. v < n)
 below_is None n e = tt
 below_is (Some v) n e = ltb-true v n e
 
@@ -59,20 +61,20 @@ counted : (t : Tree) → length (nodes_of t) ≡ items_size t
 counted t = ap length (nodes_opens t) ∙ level_counted (out-Tree t)
 
 place_is : (key : List ℕ) (place items : Option Tree) → is_some items ≡ true → misfit (λ t. t) checked key place_fits place items ≡ []
-    → WhereThere (λ v. v < length (or_empty (option_map nodes_of items))) (read count_of place)
+    → IfSome (read count_of place) (λ v. v < length (or_empty (option_map nodes_of items)))
 unfolding place_fits
 place_is key None items there e = tt
 place_is key (Some x) None there e = absurd (false≢true there)
 place_is key (Some x) (Some y) there e = below_is (count_of x) (length (nodes_of y)) (ap (is_below (count_of x)) (counted y) ∙ right (place_fits x y) _ e)
 
 -- the members are of the sub type
-all_are : (s : Option SubType) (o : Option (List EnumMember)) → is_some o ≡ true → are_of s o ≡ true → WhereThere (λ x. IsTrue (all_are_of x (or_empty o))) s
+all_are : (s : Option SubType) (o : Option (List EnumMember)) → is_some o ≡ true → are_of s o ≡ true → IfSome s (λ x. IsTrue (all_are_of x (or_empty o)))
 all_are None o there e = tt
 all_are (Some s) None there e = absurd (false≢true there)
 all_are (Some s) (Some ms) there e = e
 
 sub_type_is : (key : List ℕ) (s ms : Option Tree) → is_some (read members_of ms) ≡ true → misfit (λ t. t) checked key members_fit s ms ≡ []
-    → WhereThere (λ x. IsTrue (all_are_of x (or_empty (read members_of ms)))) (read sub_type_of s)
+    → IfSome (read sub_type_of s) (λ x. IsTrue (all_are_of x (or_empty (read members_of ms))))
 unfolding members_fit
 sub_type_is key None ms there e = tt
 sub_type_is key (Some x) None there e = absurd (false≢true there)
@@ -80,8 +82,8 @@ sub_type_is key (Some x) (Some y) there e = all_are (sub_type_of x) (members_of 
 
 -- nothing is wrong with the members of a node, and with the schemas under them
 pub record IsClean (n : NodeType) (ms : List (List ℕ × Tree)) : Type 0 where
-  pub under : (key : List ℕ) → WhereThere (IsRight (kind_under n key)) (find key ms)
-  pub none_absent : OfEach (λ r. is_absent ms r ≡ false) (rows n)
+  pub under : (key : List ℕ) → IfSome (find key ms) (IsRight (kind_under n key))
+  pub none_absent : AllByRecursion (λ r. is_absent ms r ≡ false) (rows n)
   pub fits : misfits (λ t. t) checked n ms ≡ []
 
 module _ (ms : List (List ℕ × Tree)) where
@@ -100,13 +102,13 @@ module _ (ms : List (List ℕ × Tree)) where
   no_positions : (k : Collection) → HasNoPositions (gather_rule at k)
   no_positions k = record { positions = refl; variadic = refl; bounds = bounds }
 
-  sequence : (k : Collection) → IsSequence k → WhereThere (IsRight (Some kind.Schema)) (at (codes "items_schema"))
+  sequence : (k : Collection) → IsSequence k → IfSome (at (codes "items_schema")) (IsRight (Some kind.Schema))
       → IsWhole (out-Body (body.Sequence (gather_rule at k) (node_at (codes "items_schema"))))
   sequence k is h =
       rolled _ (Body-F.Sequence (gather_rule at k) (node_at (codes "items_schema"))) (rolls-Sequence (gather_rule at k) (node_at (codes "items_schema")))
       ((is, no_positions k), schema_right (at (codes "items_schema")) h)
 
-  tuple : is_some (at (codes "items_schema")) ≡ true → WhereThere (IsRight (Some kind.Schemas)) (at (codes "items_schema"))
+  tuple : is_some (at (codes "items_schema")) ≡ true → IfSome (at (codes "items_schema")) (IsRight (Some kind.Schemas))
       → misfits (λ t. t) checked node.Tuple ms ≡ []
       → IsWhole (out-Body (body.Tuple (tuple_rule at (length (nodes_at (codes "items_schema")))) (nodes_at (codes "items_schema"))))
   tuple there h e =
@@ -116,22 +118,22 @@ module _ (ms : List (List ℕ × Tree)) where
         schemas_right (at (codes "items_schema")) h,
       )
 
-  dict : WhereThere (IsRight (Some kind.Schema)) (at (codes "keys_schema")) → WhereThere (IsRight (Some kind.Schema)) (at (codes "values_schema"))
+  dict : IfSome (at (codes "keys_schema")) (IsRight (Some kind.Schema)) → IfSome (at (codes "values_schema")) (IsRight (Some kind.Schema))
       → IsWhole (out-Body (body.Dict (gather_rule at collection.Dict) (node_at (codes "keys_schema")) (node_at (codes "values_schema"))))
   dict h k =
       let keys = node_at (codes "keys_schema") in
       let values = node_at (codes "values_schema") in
       rolled _ (Body-F.Dict (gather_rule at collection.Dict) keys values) (rolls-Dict (gather_rule at collection.Dict) keys values) (
         (refl, no_positions collection.Dict),
-        subst (OfEach IsAllowed) (sym (flat_map-append preorder (optional keys) (optional values)))
+        subst (AllByRecursion IsAllowed) (sym (flat_map-append preorder (optional keys) (optional values)))
             (each_append IsAllowed _ _ (schema_right (at (codes "keys_schema")) h) (schema_right (at (codes "values_schema")) k)),
       )
 
-  nullable : (o : Option Tree) → is_some o ≡ true → WhereThere (IsRight (Some kind.Schema)) o → IsWhole (out-Body (body.Nullable (or_any (option_map node_of o))))
+  nullable : (o : Option Tree) → is_some o ≡ true → IfSome o (IsRight (Some kind.Schema)) → IsWhole (out-Body (body.Nullable (or_any (option_map node_of o))))
   nullable None there h = absurd (false≢true there)
   nullable (Some t) there h = rolled _ (Body-F.Nullable (node_of t)) (rolls-Nullable (node_of t)) (tt, schema_right (Some t) h)
 
-  enum : is_some (at (codes "members")) ≡ true → WhereThere (IsRight (Some (kind.Value value.Members))) (at (codes "members"))
+  enum : is_some (at (codes "members")) ≡ true → IfSome (at (codes "members")) (IsRight (Some (kind.Value value.Members)))
       → misfits (λ t. t) checked node.Enum ms ≡ [] → IsEnum (enum_rule at)
   enum there h e =
       let listed = value_right value.Members members_of is_members (at (codes "members")) there h in
@@ -143,7 +145,7 @@ module _ (ms : List (List ℕ × Tree)) where
         are_of_sub_type = sub_type_is _ (at (codes "sub_type")) (at (codes "members")) listed e;
       }
 
-  literal : is_some (at (codes "expected")) ≡ true → WhereThere (IsRight (Some (kind.Value value.Literals))) (at (codes "expected"))
+  literal : is_some (at (codes "expected")) ≡ true → IfSome (at (codes "expected")) (IsRight (Some (kind.Value value.Literals)))
       → HasItems (or_empty (read literals_of (at (codes "expected"))))
   literal there h =
       or_empty_is HasItems (read literals_of (at (codes "expected"))) (value_right value.Literals literals_of is_literals (at (codes "expected")) there h)

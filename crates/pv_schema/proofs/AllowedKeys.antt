@@ -2,6 +2,8 @@
 use Rattle.std.proofs.Common.{◌≡◌, ℕ, Bool, true, false, if◌then◌else◌, List, [], ◌∷◌, ◌++◌, Option, None, Some, is_some, not, option_map, flat_map, refl, sym, ◌∙◌, subst}
 use Rattle.std.proofs.lemmas.Slice.Eq.{bytes_eq-Decides}
 use Rattle.std.specs.Str.{bytes_eq}
+use Rattle.std.specs.List.{AllByRecursion}
+use Rattle.std.specs.Option.{IfSome}
 use Rattle.pv_tree.specs.declared.Step.{Step}
 use Rattle.pv_tree.specs.declared.Step.TheVariants.{Name}
 use Rattle.pv_tree.specs.declared.Tree.{Tree}
@@ -13,7 +15,7 @@ use Rattle.pv_schema.specs.Find.{find}
 use Rattle.pv_schema.specs.Table.{Rows, kind_under}
 use Rattle.pv_schema.specs.Checking.{schema_faults, schemas_faults, faults, faults_below, member_faults, all_under, is_absent, missing_in}
 use Rattle.pv_schema.specs.Making.{node_of, nodes_of, or_empty, read}
-use Rattle.pv_schema.specs.Allowed.{WhereThere, OfEach, IsAllowed}
+use Rattle.pv_schema.specs.Allowed.{IsAllowed}
 use Rattle.pv_schema.specs.declared.fault.Refusal.{Refusal}
 use Rattle.pv_schema.specs.declared.kind.Kind.{Kind}
 use Rattle.pv_schema.specs.declared.kind.Kind.TheVariants as kind
@@ -33,10 +35,10 @@ right false x e = cc
 
 -- a tree with which nothing is wrong is allowed, as a schema and as a list of schemas
 pub record IsSound (t : Tree) : Type 0 where
-  pub as_schema : schema_faults t ≡ [] → OfEach IsAllowed (preorder (node_of t))
-  pub as_schemas : schemas_faults t ≡ [] → OfEach IsAllowed (flat_map preorder (nodes_of t))
+  pub as_schema : schema_faults t ≡ [] → AllByRecursion IsAllowed (preorder (node_of t))
+  pub as_schemas : schemas_faults t ≡ [] → AllByRecursion IsAllowed (flat_map preorder (nodes_of t))
 
-pub each_append : {X : Type 0} (P : X → Type 0) (xs ys : List X) → OfEach P xs → OfEach P ys → OfEach P (xs ++ ys)
+pub each_append : {X : Type 0} (P : X → Type 0) (xs ys : List X) → AllByRecursion P xs → AllByRecursion P ys → AllByRecursion P (xs ++ ys)
 each_append P [] ys h k = k
 each_append P (x ∷ xs) ys h k = (h.0, each_append P xs ys h.1 k)
 
@@ -44,18 +46,18 @@ each_append P (x ∷ xs) ys h k = (h.0, each_append P xs ys h.1 k)
 abbrev pub IsRight : Option Kind → Tree → Type 0
 IsRight k t = (faults_below k t ≡ []) × IsSound t
 
-pub members_right : (n : NodeType) (ms : List (List ℕ × Tree)) → flat_map (member_faults n) ms ≡ [] → OfEach (λ m. IsSound m.1) ms
-    → OfEach (λ m. IsRight (kind_under n m.0) m.1) ms
+pub members_right : (n : NodeType) (ms : List (List ℕ × Tree)) → flat_map (member_faults n) ms ≡ [] → AllByRecursion (λ m. IsSound m.1) ms
+    → AllByRecursion (λ m. IsRight (kind_under n m.0) m.1) ms
 members_right n [] e h = tt
 members_right n (m ∷ ms) e h =
     let p = both_empty (member_faults n m) (flat_map (member_faults n) ms) e in
     ((none_under (Name m.0) (faults_below (kind_under n m.0) m.1) p.0, h.0), members_right n ms p.1 h.1)
 
-first_found : {X : Type 0} (P : X → Type 0) (b : Bool) (x : X) (o : Option X) → (b ≡ true → P x) → WhereThere P o → WhereThere P (if b then Some x else o)
+first_found : {X : Type 0} (P : X → Type 0) (b : Bool) (x : X) (o : Option X) → (b ≡ true → P x) → IfSome o P → IfSome (if b then Some x else o) P
 first_found P true x o h k = h refl
 first_found P false x o h k = k
 
-pub found_is : (P : List ℕ → Tree → Type 0) (key : List ℕ) (ms : List (List ℕ × Tree)) → OfEach (λ m. P m.0 m.1) ms → WhereThere (P key) (find key ms)
+pub found_is : (P : List ℕ → Tree → Type 0) (key : List ℕ) (ms : List (List ℕ × Tree)) → AllByRecursion (λ m. P m.0 m.1) ms → IfSome (find key ms) (P key)
 found_is P key [] h = tt
 found_is P key (m ∷ ms) h =
     first_found (P key) (bytes_eq key m.0) m.1 (find key ms) (λ e. subst (λ k. P k m.1) (sym ((bytes_eq-Decides key m.0).0 e)) h.0) (found_is P key ms h.1)
@@ -65,7 +67,7 @@ there : (b : Bool) (r : Refusal) (rs : List Refusal) → (if b then r ∷ rs els
 there true r rs e = cc
 there false r rs e = (refl, e)
 
-pub none_absent : (ms : List (List ℕ × Tree)) (rs : Rows) → missing_in ms rs ≡ [] → OfEach (λ r. is_absent ms r ≡ false) rs
+pub none_absent : (ms : List (List ℕ × Tree)) (rs : Rows) → missing_in ms rs ≡ [] → AllByRecursion (λ r. is_absent ms r ≡ false) rs
 none_absent ms [] e = tt
 none_absent ms (r ∷ rs) e = let p = there (is_absent ms r) _ (missing_in ms rs) e in (p.0, none_absent ms rs p.1)
 
@@ -74,19 +76,19 @@ is_there true e = refl
 is_there false e = cc
 
 -- the schema under a key, and the list of schemas
-pub schema_right : (o : Option Tree) → WhereThere (IsRight (Some kind.Schema)) o → OfEach IsAllowed (flat_map preorder (optional (option_map node_of o)))
+pub schema_right : (o : Option Tree) → IfSome o (IsRight (Some kind.Schema)) → AllByRecursion IsAllowed (flat_map preorder (optional (option_map node_of o)))
 unfolding faults
 schema_right None h = tt
 schema_right (Some t) h = each_append IsAllowed (preorder (node_of t)) [] (h.1.as_schema h.0) tt
 
-pub schemas_right : (o : Option Tree) → WhereThere (IsRight (Some kind.Schemas)) o → OfEach IsAllowed (flat_map preorder (or_empty (option_map nodes_of o)))
+pub schemas_right : (o : Option Tree) → IfSome o (IsRight (Some kind.Schemas)) → AllByRecursion IsAllowed (flat_map preorder (or_empty (option_map nodes_of o)))
 unfolding faults
 schemas_right None h = tt
 schemas_right (Some t) h = h.1.as_schemas h.0
 
 -- a value that has to be there
 pub value_right : {Y : Type 0} (v : ValueKind) (f : Tree → Option Y) → ((t : Tree) → is_value v t ≡ is_some (f t))
-    → (o : Option Tree) → is_some o ≡ true → WhereThere (IsRight (Some (kind.Value v))) o → is_some (read f o) ≡ true
+    → (o : Option Tree) → is_some o ≡ true → IfSome o (IsRight (Some (kind.Value v))) → is_some (read f o) ≡ true
 unfolding faults
 value_right v f same None is h = is
 value_right v f same (Some t) is h = sym (same t) ∙ right (is_value v t) _ h.0

@@ -1,5 +1,6 @@
 -- A tree with which nothing is wrong is a schema that is allowed, by induction on trees.
 use Rattle.std.proofs.Common.{◌≡◌, ℕ, ◌+◌, Bool, true, false, if◌then◌else◌, List, [], ◌∷◌, map, codes, Option, None, Result, Ok, Err, flat_map, refl, ap, sym, ◌∙◌, subst}
+use Rattle.std.specs.List.{AllByRecursion}
 use Rattle.pv_tree.specs.declared.Step.TheVariants.{Index}
 use Rattle.pv_tree.specs.declared.Tree.{Tree, out-Tree, out-roll-Tree, map-Tree}
 use Rattle.pv_tree.specs.declared.Tree.TheOpen.{Tree-F}
@@ -15,7 +16,7 @@ use Rattle.pv_schema.specs.Checking.{schema_faults, member_faults, members_fault
 use Rattle.pv_schema.specs.Making.{node_of, body_in, members_node, node_level, nodes_level}
 use Rattle.pv_schema.specs.Answers.{first}
 use Rattle.pv_schema.specs.Reading.{schema_of, schema_by}
-use Rattle.pv_schema.specs.Allowed.{OfEach, IsAllowed, AreAllowed}
+use Rattle.pv_schema.specs.Allowed.{IsAllowed, AreAllowed}
 use Rattle.pv_schema.specs.declared.fault.Refusal.{Refusal}
 use Rattle.pv_schema.specs.declared.fault.SchemaFault.{SchemaFault}
 use Rattle.pv_schema.specs.declared.node_type.NodeType.{NodeType}
@@ -27,13 +28,13 @@ use Rattle.pv_schema.proofs.AllowedBodies.{IsWhole, body_is_whole}
 abbrev with_body : Option Bool → Body → Node
 with_body strict b = roll-Node (record { own_ref = None; strict = strict; body = b })
 
-node_is : (strict : Option Bool) (b : Body) → IsWhole (out-Body b) → OfEach IsAllowed (preorder (with_body strict b))
+node_is : (strict : Option Bool) (b : Body) → IsWhole (out-Body b) → AllByRecursion IsAllowed (preorder (with_body strict b))
 node_is strict b h =
-    subst (OfEach IsAllowed) (sym (opens (with_body strict b)))
+    subst (AllByRecursion IsAllowed) (sym (opens (with_body strict b)))
     (subst IsWhole (sym (ap (λ n. out-Body n.body) (out-roll-Node (record { own_ref = None; strict = strict; body = b })))) h)
 
-members_are : (r : Result NodeType Refusal) (ms : List (List ℕ × Tree)) → OfEach (λ m. IsSound m.1) ms → members_faults r ms ≡ []
-    → OfEach IsAllowed (preorder (members_node r ms))
+members_are : (r : Result NodeType Refusal) (ms : List (List ℕ × Tree)) → AllByRecursion (λ m. IsSound m.1) ms → members_faults r ms ≡ []
+    → AllByRecursion IsAllowed (preorder (members_node r ms))
 members_are (Err r) ms h e = cc
 members_are (Ok n) ms h e =
     let p = both_empty (flat_map (member_faults n) ms) (rest_faults n ms) e in
@@ -46,7 +47,7 @@ members_are (Ok n) ms h e =
       fits = q.1;
     }))
 
-items_are : (i : ℕ) (ts : List Tree) → OfEach IsSound ts → places_faults i ts ≡ [] → OfEach IsAllowed (flat_map preorder (map node_of ts))
+items_are : (i : ℕ) (ts : List Tree) → AllByRecursion IsSound ts → places_faults i ts ≡ [] → AllByRecursion IsAllowed (flat_map preorder (map node_of ts))
 items_are i [] h e = tt
 items_are i (t ∷ ts) h e =
     let p = both_empty _ (places_faults (i + 1) ts) e in
@@ -58,14 +59,14 @@ AreInside Tree-F.Null = Unit {0}
 AreInside (Tree-F.Bool b) = Unit {0}
 AreInside (Tree-F.Num lexeme) = Unit {0}
 AreInside (Tree-F.Str text) = Unit {0}
-AreInside (Tree-F.Array ts) = OfEach IsSound ts
-AreInside (Tree-F.Object ms) = OfEach (λ m. IsSound m.1) ms
+AreInside (Tree-F.Array ts) = AllByRecursion IsSound ts
+AreInside (Tree-F.Object ms) = AllByRecursion (λ m. IsSound m.1) ms
 
-items_held : (es : List ((t : Tree) × IsSound t)) → OfEach IsSound (map (λ e. e.0) es)
+items_held : (es : List ((t : Tree) × IsSound t)) → AllByRecursion IsSound (map (λ e. e.0) es)
 items_held [] = tt
 items_held (e ∷ es) = (e.1, items_held es)
 
-members_held : (ms : List (List ℕ × ((t : Tree) × IsSound t))) → OfEach (λ (m : List ℕ × Tree). IsSound m.1) (map (λ m. (m.0, m.1.0)) ms)
+members_held : (ms : List (List ℕ × ((t : Tree) × IsSound t))) → AllByRecursion (λ (m : List ℕ × Tree). IsSound m.1) (map (λ m. (m.0, m.1.0)) ms)
 members_held [] = tt
 members_held (m ∷ ms) = (m.1.1, members_held ms)
 
@@ -78,8 +79,8 @@ held (Tree-F.Array ts) = items_held ts
 held (Tree-F.Object ms) = members_held ms
 
 record IsSoundLevel (x : Tree-F Tree) : Type 0 where
-  as_schema : schema_level x ≡ [] → OfEach IsAllowed (preorder (node_level x))
-  as_schemas : schemas_level x ≡ [] → OfEach IsAllowed (flat_map preorder (nodes_level x))
+  as_schema : schema_level x ≡ [] → AllByRecursion IsAllowed (preorder (node_level x))
+  as_schemas : schemas_level x ≡ [] → AllByRecursion IsAllowed (flat_map preorder (nodes_level x))
 
 level_is : (x : Tree-F Tree) → AreInside x → IsSoundLevel x
 level_is Tree-F.Null h = record { as_schema = λ e. cc; as_schemas = λ e. tt }
@@ -91,8 +92,8 @@ level_is (Tree-F.Object ms) h = record { as_schema = members_are (type_in (λ t.
 
 by_level : (t : Tree) → IsSoundLevel (out-Tree t) → IsSound t
 by_level t l = record {
-  as_schema = λ e. subst (λ n. OfEach IsAllowed (preorder n)) (sym (node_opens t)) (l.as_schema (sym (schema_opens t) ∙ e));
-  as_schemas = λ e. subst (λ ns. OfEach IsAllowed (flat_map preorder ns)) (sym (nodes_opens t)) (l.as_schemas (sym (schemas_opens t) ∙ e));
+  as_schema = λ e. subst (λ n. AllByRecursion IsAllowed (preorder n)) (sym (node_opens t)) (l.as_schema (sym (schema_opens t) ∙ e));
+  as_schemas = λ e. subst (λ ns. AllByRecursion IsAllowed (flat_map preorder ns)) (sym (nodes_opens t)) (l.as_schemas (sym (schemas_opens t) ∙ e));
 }
 
 sound : (t : Tree) → IsSound t
@@ -109,7 +110,7 @@ nothing_wrong (r ∷ rs) n root e = cc
 -- a tree with which nothing is wrong
 pub right_is_allowed : (t : Tree) (n : Node) → schema_faults t ≡ [] → n ≡ node_of t → AreAllowed n
 unfolding AreAllowed
-right_is_allowed t n e is = subst (λ m. OfEach IsAllowed (preorder m)) (sym is) ((sound t).as_schema e)
+right_is_allowed t n e is = subst (λ m. AllByRecursion IsAllowed (preorder m)) (sym is) ((sound t).as_schema e)
 
 pub read_is_allowed : (t : Tree) (root : Node) → schema_of t ≡ Ok root → AreAllowed root
 unfolding schema_of

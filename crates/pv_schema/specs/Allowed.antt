@@ -1,5 +1,7 @@
 -- What the table of keys allows of the nodes of a schema: how large numbers are, lists with something in them, members that are distinct, and positions that are there.
-use Rattle.std.specs.Prelude.{◌≡◌, ℕ, ◌<◌, ◌≤◌, List, [], ◌∷◌, length, ℤ, pos, Option, None, Some, IsTrue}
+use Rattle.std.specs.Prelude.{◌≡◌, ℕ, ◌<◌, ◌≤◌, List, length, ℤ, pos, Option, None, IsTrue}
+use Rattle.std.specs.List.{AllByRecursion}
+use Rattle.std.specs.Option.{IfSome}
 use Rattle.pv_rules.specs.declared.Literal.{Literal}
 use Rattle.pv_rules.specs.declared.Literal.TheVariants as literal
 use Rattle.pv_rules.specs.declared.EnumRule.{EnumRule}
@@ -13,16 +15,6 @@ use Rattle.pv_node.specs.declared.Body.TheOpen.{Body-F}
 use Rattle.pv_node.specs.Preorder.{body_of, preorder}
 use Rattle.pv_schema_values.specs.Values.{are_members}
 use Rattle.pv_schema.specs.Checking.{all_are_of}
-
--- a fact of what is there
-abbrev pub WhereThere : {X : Type 0} → (X → Type 0) → Option X → Type 0
-WhereThere P None = Unit {0}
-WhereThere P (Some x) = P x
-
--- a fact of each
-abbrev pub OfEach : {X : Type 0} → (X → Type 0) → List X → Type 0
-OfEach P [] = Unit {0}
-OfEach P (x ∷ xs) = P x × OfEach P xs
 
 abbrev pub IsCount : ℕ → Type 0
 IsCount n = n ≤ 4294967295
@@ -45,24 +37,24 @@ IsIntOrText (literal.Int n) = Unit {0}
 IsIntOrText (literal.Text t) = Unit {0}
 
 pub record AreBounds (least most : Option ℕ) : Type 0 where
-  pub least_is_count : WhereThere IsCount least
-  pub most_is_count : WhereThere IsCount most
+  pub least_is_count : IfSome least IsCount
+  pub most_is_count : IfSome most IsCount
 
 pub record IsEnum (r : EnumRule) : Type 0 where
   pub has_members : HasItems r.members
   pub are_distinct : IsTrue (are_members r.members)
-  pub are_values : OfEach (λ m. IsIntOrText m.value) r.members
-  pub are_of_sub_type : WhereThere (λ s. IsTrue (all_are_of s r.members)) r.sub_type
+  pub are_values : AllByRecursion (λ m. IsIntOrText m.value) r.members
+  pub are_of_sub_type : IfSome r.sub_type (λ s. IsTrue (all_are_of s r.members))
 
 abbrev pub IsAllowedRule : ScalarRule → Type 0
 IsAllowedRule rule.Any = Unit {0}
 IsAllowedRule rule.None = Unit {0}
 IsAllowedRule rule.Bool = Unit {0}
-IsAllowedRule (rule.Int r) = WhereThere IsPositive r.multiple_of
+IsAllowedRule (rule.Int r) = IfSome r.multiple_of IsPositive
 IsAllowedRule (rule.Str r) = AreBounds r.min_length r.max_length
 IsAllowedRule (rule.Bytes r) = AreBounds r.min_length r.max_length
-IsAllowedRule (rule.Uuid version) = WhereThere IsVersion version
-IsAllowedRule (rule.Url r) = WhereThere IsCount r.max_length × WhereThere HasItems r.allowed_schemes
+IsAllowedRule (rule.Uuid version) = IfSome version IsVersion
+IsAllowedRule (rule.Url r) = IfSome r.max_length IsCount × IfSome r.allowed_schemes HasItems
 IsAllowedRule (rule.Literal values) = HasItems values
 IsAllowedRule (rule.Enum r) = IsEnum r
 
@@ -83,7 +75,7 @@ pub record HasNoPositions (r : GatherRule) : Type 0 where
 pub record HasPositions (r : GatherRule) (n : ℕ) : Type 0 where
   pub kind : r.kind ≡ collection.Tuple
   pub positions : r.positions ≡ n
-  pub variadic : WhereThere (λ v. v < n) r.variadic_item_index
+  pub variadic : IfSome r.variadic_item_index (λ v. v < n)
   pub bounds : AreBounds r.min_length r.max_length
 
 abbrev pub IsAllowedBody : {X Y : Type 0} → Body-F X Y → Type 0
@@ -98,4 +90,4 @@ IsAllowed n = IsAllowedBody (body_of n)
 
 -- each node of a schema
 unfoldable pub AreAllowed : Node → Type 0
-AreAllowed root = OfEach IsAllowed (preorder root)
+AreAllowed root = AllByRecursion IsAllowed (preorder root)
