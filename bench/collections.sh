@@ -3,25 +3,14 @@
 # Run by hand: bench/collections.sh [RUNS]
 root=$(CDPATH= cd -- "$(dirname -- "$0")/.." && pwd -P)
 "$root/pydcore" >/dev/null 2>&1
+export PYTHONPATH="$root/bench" PYTHONDONTWRITEBYTECODE=1
 exec python3 - "$root/crates/pydcore/out/pydcore" "${1:-3}" <<'PYTHON'
-import os, subprocess, sys, tempfile, time
+import sys
+
+from measuring import filled, print_growth, seconds
 
 program, runs = sys.argv[1], int(sys.argv[2])
-MIB = 1024 * 1024
 ONE = ['1', '1.0', '10e-1', '"1"', 'true', '0', '0.0', 'false']
-
-
-def filled(front, unit, end, size):
-    """front, then units (by their number) joined by commas, then end, in at most size bytes."""
-    parts, length, i = [], len(front) + len(end), 0
-    while True:
-        piece = unit(i)
-        if length + len(piece) + 1 > size:
-            break
-        parts.append(piece)
-        length += len(piece) + 1
-        i += 1
-    return front + ','.join(parts) + end
 
 
 def inner(i):
@@ -40,28 +29,14 @@ cases = {
     'dict, all keys equal after validation': ('{"type":"dict","keys_schema":{"type":"int"}}', lambda size: filled('{', lambda i: '"%s1":1' % ('0' * (i % 50)), '}', size)),
 }
 
-with tempfile.TemporaryDirectory() as folder:
-    os.chdir(folder)
+print_growth(program, runs, cases)
 
-    def seconds(schema, text):
-        open('S', 'w').write(schema)
-        open('D', 'w').write(text)
-        best = None
-        for _ in range(runs):
-            start = time.perf_counter()
-            subprocess.run([program, 'validate', 'S', 'D'], stdout=subprocess.DEVNULL)
-            spent = time.perf_counter() - start
-            best = spent if best is None else min(best, spent)
-        return best
 
-    print(f'{"document of 4 MiB":38} {"MB/s":>7} {"4 MiB / 1 MiB":>14}')
-    for name, (schema, make) in cases.items():
-        small, large = seconds(schema, make(MIB)), seconds(schema, make(4 * MIB))
-        print(f'{name:38} {4 * MIB / large / 1e6:7.1f} {large / small:14.2f}')
+def tuple_of(nodes):
+    items = ','.join(['{"type":"int"}'] * (nodes - 1))
+    return seconds(program, runs, '{"type":"tuple","items_schema":[' + items + ']}', '[' + ','.join(['1'] * (nodes - 1)) + ']')
 
-    def tuple_of(nodes):
-        return seconds('{"type":"tuple","items_schema":[' + ','.join(['{"type":"int"}'] * (nodes - 1)) + ']}', '[' + ','.join(['1'] * (nodes - 1)) + ']')
 
-    small, large = tuple_of(25_000), tuple_of(100_000)
-    print(f'schema of 100,000 nodes: {large:.2f} s, {large / small:.2f} times that of 25,000')
+small, large = tuple_of(25_000), tuple_of(100_000)
+print(f'schema of 100,000 nodes: {large:.2f} s, {large / small:.2f} times that of 25,000')
 PYTHON

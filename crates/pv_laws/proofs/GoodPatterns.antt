@@ -1,5 +1,5 @@
 -- The patterns of a schema, node by node.
-use Rattle.std.proofs.Common.{◌≡◌, ◌↔◌, ℕ, zero, suc, ◌+◌, ◌≤◌, Bool, true, false, List, [], ◌∷◌, ◌++◌, codes, Option, None, Some, if◌then◌else◌, refl, ap, sym, subst, ◌∙◌, arith}
+use Rattle.std.proofs.Common.{◌≡◌, ◌↔◌, ℕ, zero, suc, ◌+◌, ◌≤◌, Bool, true, false, List, [], ◌∷◌, codes, Option, None, Some, if◌then◌else◌, refl, ap, sym, subst, ◌∙◌, arith}
 use Rattle.std.specs.List.{AllByRecursion, flat_map}
 use Rattle.pv_tree.specs.declared.Step.TheVariants.{Name, Index}
 use Rattle.pv_node.specs.declared.Node.{Node}
@@ -11,6 +11,7 @@ use Rattle.pv_node.proofs.Counts.{one_more, first_and_rest}
 use Rattle.pv_plan.specs.BadPatterns.{Path, bad_pattern, behind, first_of, in_positions, rule_is_bad}
 use Rattle.pv_plan.specs.Searching.{in_itself, in_children}
 use Rattle.pv_plan.proofs.Openings.{search_opens}
+use Rattle.pv_laws.proofs.Each.{each_append, each_front, each_back}
 use Rattle.pv_laws.specs.Patterns.{HasGoodPattern, HasGoodPatternAt}
 
 abbrev IsGood : Node → Type 0
@@ -112,24 +113,12 @@ good_itself (Body-F.Tuple r items) h = refl
 good_itself (Body-F.Dict r keys values) h = refl
 good_itself (Body-F.Nullable n) h = refl
 
-each_of_both : (P : Node → Type 0) (xs ys : List Node) → AllByRecursion P xs → AllByRecursion P ys → AllByRecursion P (xs ++ ys)
-each_of_both P [] ys h k = k
-each_of_both P (x ∷ xs) ys h k = (h.0, each_of_both P xs ys h.1 k)
-
-each_of_front : (P : Node → Type 0) (xs ys : List Node) → AllByRecursion P (xs ++ ys) → AllByRecursion P xs
-each_of_front P [] ys h = tt
-each_of_front P (x ∷ xs) ys h = (h.0, each_of_front P xs ys h.1)
-
-each_of_back : (P : Node → Type 0) (xs ys : List Node) → AllByRecursion P (xs ++ ys) → AllByRecursion P ys
-each_of_back P [] ys h = h
-each_of_back P (x ∷ xs) ys h = each_of_back P xs ys h.1
-
 all_good : (k : ℕ) → ((n : Node) → node_count n ≤ k → IsGood n → AllByRecursion HasGoodPattern (preorder n))
     → (ns : List Node) → nodes_count ns ≤ k → AllByRecursion IsGood ns → AllByRecursion HasGoodPattern (flat_map preorder ns)
 all_good k inner [] l h = tt
 all_good k inner (n ∷ ns) l h =
     let c = first_and_rest n ns in
-    each_of_both HasGoodPattern (preorder n) (flat_map preorder ns) (inner n (omega (arith, l, c)) h.0) (all_good k inner ns (omega (arith, l, c)) h.1)
+    each_append HasGoodPattern (preorder n) (flat_map preorder ns) (inner n (omega (arith, l, c)) h.0) (all_good k inner ns (omega (arith, l, c)) h.1)
 
 -- of schemas of at most so many nodes
 good_below : (k : ℕ) (n : Node) → node_count n ≤ k → IsGood n → AllByRecursion HasGoodPattern (preorder n)
@@ -147,8 +136,8 @@ good_all : (k : ℕ) → ((n : Node) → node_count n ≤ k → AllByRecursion H
 good_all k inner [] l h = tt
 good_all k inner (n ∷ ns) l h =
     let c = first_and_rest n ns in (
-      inner n (omega (arith, l, c)) (each_of_front HasGoodPattern (preorder n) (flat_map preorder ns) h),
-      good_all k inner ns (omega (arith, l, c)) (each_of_back HasGoodPattern (preorder n) (flat_map preorder ns) h),
+      inner n (omega (arith, l, c)) (each_front HasGoodPattern (preorder n) (flat_map preorder ns) h),
+      good_all k inner ns (omega (arith, l, c)) (each_back HasGoodPattern (preorder n) (flat_map preorder ns) h),
     )
 
 below_good : (k : ℕ) (n : Node) → node_count n ≤ k → AllByRecursion HasGoodPattern (preorder n) → IsGood n

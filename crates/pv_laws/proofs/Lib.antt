@@ -1,3 +1,4 @@
+pub mod Each
 pub mod LocatedParts
 pub mod Locating
 pub mod Keeping

@@ -1,6 +1,7 @@
 -- The errors of the parts of a document, seen from the whole.
 use Rattle.std.proofs.Common.{◌≡◌, ℕ, zero, suc, ◌+◌, ◌-◌, ◌≤◌, inl, inr, Bool, true, false, not, ◌&&◌, if◌then◌else◌, List, [], ◌∷◌, ◌++◌, map, flat_map, length, codes, Option, None, Some, slice_get, Contains, refl, sym, ap, ◌∙◌, subst, ⊎_elim, arith}
 use Rattle.std.specs.List.{AllByRecursion}
+use Rattle.std.specs.Option.{IfSome}
 use Rattle.pv_tree.specs.declared.Step.{Step}
 use Rattle.pv_tree.specs.declared.Step.TheVariants.{Name, Index}
 use Rattle.pv_tree.specs.declared.Tree.{Tree, out-Tree, out-roll-Tree}
@@ -17,6 +18,7 @@ use Rattle.pv_fault.specs.Under.{under, all_under}
 use Rattle.pv_equality.specs.Hashable.{hashable}
 use Rattle.pv_collect.specs.Gathering.{Part, needs_hash, errors_of, error_here, item_errors, items_errors, key_errors, pair_errors, missing_from, missing_of}
 use Rattle.pv_engine.specs.Rules.{Child, part, position_of, placed, placed_by, pair}
+use Rattle.pv_laws.proofs.Each.{each_append, each_map, each_more, found_is}
 use Rattle.pv_laws.specs.Located.{IsPart, IsLacking, IsKey, IsLocated, IsOutcomeOf}
 
 -- the location of an error leads from the tree to its input
@@ -26,28 +28,6 @@ IsAt t e = IsLocated e.loc t e.input
 -- what a child gives for a tree has its errors located in that tree
 abbrev pub Locates : Child → Type 0
 Locates child = (t : Tree) → IsOutcomeOf t (child t)
-
--- a fact of what is there
-abbrev WhereThere : {X : Type 0} → (X → Type 0) → Option X → Type 0
-WhereThere P None = Unit {0}
-WhereThere P (Some x) = P x
-
-pub each_append : {X : Type 0} (P : X → Type 0) (xs ys : List X) → AllByRecursion P xs → AllByRecursion P ys → AllByRecursion P (xs ++ ys)
-each_append P [] ys h k = k
-each_append P (x ∷ xs) ys h k = (h.0, each_append P xs ys h.1 k)
-
-each_map : {X Y : Type 0} (P : Y → Type 0) (f : X → Y) (xs : List X) → AllByRecursion (λ x. P (f x)) xs → AllByRecursion P (map f xs)
-each_map P f [] h = tt
-each_map P f (x ∷ xs) h = (h.0, each_map P f xs h.1)
-
-each_more : {X : Type 0} (P Q : X → Type 0) → ((x : X) → P x → Q x) → (xs : List X) → AllByRecursion P xs → AllByRecursion Q xs
-each_more P Q more [] h = tt
-each_more P Q more (x ∷ xs) h = (more x h.0, each_more P Q more xs h.1)
-
-found_is : {X : Type 0} (P : X → Type 0) (xs : List X) (i : ℕ) → AllByRecursion P xs → WhereThere P (slice_get xs i)
-found_is P [] i h = tt
-found_is P (x ∷ xs) zero h = h.0
-found_is P (x ∷ xs) (suc i) h = found_is P xs i h.1
 
 -- an error at the tree itself
 pub here : (t : Tree) (k : Kind) → IsAt t (error_here k t)
@@ -103,7 +83,7 @@ module _ (t : Tree) (all : List Tree) (opens : out-Tree t ≡ Tree-F.Array all) 
   sequence_parts item is i (u ∷ ts) rest = (is_item i u (rest 0 i (omega arith)), is u, sequence_parts item is (i + 1) ts (λ j k e. rest (suc j) k (omega arith)))
 
   -- nothing stands behind an item that no position takes
-  placed_part : (o : Option Child) → WhereThere Locates o → (i : ℕ) (u : Tree) (ps : List Part) → slice_get all i ≡ Some u → AreParts t (i + 1) ps → AreParts t i (placed_by o u ps)
+  placed_part : (o : Option Child) → IfSome o Locates → (i : ℕ) (u : Tree) (ps : List Part) → slice_get all i ≡ Some u → AreParts t (i + 1) ps → AreParts t i (placed_by o u ps)
   placed_part None is i u ps at h = tt
   placed_part (Some child) is i u ps at h = (is_item i u at, is u, h)
 

@@ -24,7 +24,8 @@ use Rattle.pv_collect.specs.Gathering.{Part, Pair, items_errors, missing_of, wan
 use Rattle.pv_engine.specs.Rules.{Child, one_error, part, placed, pair, sequence, sequence_at, tuple, tuple_at, dict, dict_at, first, second, collection, collection_of, nullable, nullable_at}
 use Rattle.pv_engine.specs.Meaning.{meaning, node, node_at, strict_in}
 use Rattle.pv_laws.specs.Located.{IsOutcomeOf}
-use Rattle.pv_laws.proofs.LocatedParts.{IsAt, Locates, AreParts, each_append, here, items_located, sequence_parts, tuple_parts, missing_located, pairs_located}
+use Rattle.pv_laws.proofs.Each.{each_append}
+use Rattle.pv_laws.proofs.LocatedParts.{IsAt, Locates, AreParts, here, items_located, sequence_parts, tuple_parts, missing_located, pairs_located}
 
 -- one error at the tree itself
 one_located : (k : Kind) (t : Tree) → IsOutcomeOf t (one_error k t)
