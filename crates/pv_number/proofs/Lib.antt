@@ -1,3 +1,4 @@
+pub mod Blocks
 pub mod Completeness
 pub mod Soundness
 pub mod Runs
@@ -7,3 +8,4 @@ pub mod WholeLaws
 pub mod NumberOrder
 pub mod NumberLaws
 pub mod WrittenIntegers
+pub mod FewDigits

@@ -6,6 +6,7 @@ use Rattle.std.specs.List.{before_first, after_first, list_all, position_or_len}
 use Rattle.std.proofs.lemmas.List.{drop_all, take_all}
 use Rattle.std.proofs.lemmas.Bool.{and_parts, lt-ltb, ltb-true, false≢true}
 use Rattle.std.proofs.lemmas.Int.{ints}
+use Rattle.std.proofs.lemmas.Option.{none-some, same_Some}
 use Rattle.pv_number.specs.ExactNumber.{number, is_integer, is_point, is_letter, HasValue, IsWhole, IsProduct, without_sign}
 use Rattle.pv_number.specs.Scanning.{begins}
 use Rattle.pv_number.specs.declared.exact.Whole.TheVariants.{Fits, TooBig, Fraction}
@@ -18,10 +19,10 @@ none_at p (b ∷ bs) all =
     let parts = and_parts (not (p b)) (list_all (λ x. not (p x)) bs) all in
     ap (λ t. cond t (1 + position_or_len p bs) 0) parts.0 ∙ ap (λ n. 1 + n) (none_at p bs parts.1) ∙ omega arith
 
-none_after : (p : ℕ → Bool) (bs : List ℕ) → list_all (λ b. not (p b)) bs ≡ true → after_first p bs ≡ []
+pub none_after : (p : ℕ → Bool) (bs : List ℕ) → list_all (λ b. not (p b)) bs ≡ true → after_first p bs ≡ []
 none_after p bs all = drop_all (position_or_len p bs + 1) bs (omega (arith, none_at p bs all))
 
-all_before : (p : ℕ → Bool) (bs : List ℕ) → list_all (λ b. not (p b)) bs ≡ true → before_first p bs ≡ bs
+pub all_before : (p : ℕ → Bool) (bs : List ℕ) → list_all (λ b. not (p b)) bs ≡ true → before_first p bs ≡ bs
 all_before p bs all = take_all (position_or_len p bs) bs (omega (arith, none_at p bs all))
 
 not_either : (a b : Bool) → not (a || b) ≡ true → (not a ≡ true) × (not b ≡ true)
@@ -29,7 +30,7 @@ not_either true b e = absurd (false≢true e)
 not_either false true e = absurd (false≢true e)
 not_either false false e = (refl, refl)
 
-each : (bs : List ℕ) → is_integer bs ≡ true → (list_all (λ b. not (is_point b)) bs ≡ true) × (list_all (λ b. not (is_letter b)) bs ≡ true)
+pub each : (bs : List ℕ) → is_integer bs ≡ true → (list_all (λ b. not (is_point b)) bs ≡ true) × (list_all (λ b. not (is_letter b)) bs ≡ true)
 each [] all = (refl, refl)
 each (b ∷ bs) all =
     let parts = and_parts (not (is_point b || is_letter b)) (is_integer bs) all in
@@ -93,5 +94,18 @@ written_fraction bs all w = absurd (w (number bs).significand (has_written bs al
 pub unwritten : (bs : List ℕ) → is_integer bs ≡ false → None ≡ integer bs
 unfolding integer
 unwritten bs e = rw e refl
+
+-- what is written as an integer of 128 bits stands for it
+pub integer_whole : (bs : List ℕ) (n : ℤ) → integer bs ≡ Some n → IsWhole (number bs) (Fits n)
+unfolding integer
+integer_whole bs n e =
+    by (is_integer bs) (is_i128 (number bs).significand) refl refl
+  where
+    by : (t u : Bool) → is_integer bs ≡ t → is_i128 (number bs).significand ≡ u → IsWhole (number bs) (Fits n)
+    by true true f g =
+        let same : (number bs).significand ≡ n = same_Some _ _ (sym (rw (f, g) refl) ∙ e) in
+        (subst (λ z. HasValue (number bs) z) same (has_written bs f), subst (λ z. FitsSigned w128 z) same (small_fits (number bs).significand g))
+    by true false f g = absurd (none-some n (sym (rw (f, g) refl) ∙ e))
+    by false u f g = absurd (none-some n (sym (rw f refl) ∙ e))
 
 pub ruleset written = (written_fits, written_big, written_fraction, unwritten)

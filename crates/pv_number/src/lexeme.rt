@@ -1,8 +1,7 @@
 use crate::scanning::is_number;
-use pv_text::Memory;
+use pv_text::{Block, Memory};
 use std::alloc::Global;
 use std::marker::Model;
-use std::rc::RcSlice;
 use thiserror::Error;
 
 /// Why bytes are no lexeme.
@@ -14,37 +13,65 @@ pub enum LexemeFault {
     Memory,
 }
 
-/// The spelling of a JSON number (RFC 8259, section 6), seen as its bytes. Its owners share one copy of it.
+/// The spelling of a JSON number (RFC 8259, section 6), seen as its bytes: a piece of a block that
+/// others own too, which lives as long as one of them.
 #[derive(Drop)]
 pub struct Lexeme {
-    bytes: RcSlice<u8>,
+    block: Block,
+    start: u32,
+    len: u32,
 }
 
 impl Model for Lexeme {
-    ghost use Rattle.std.specs.Prelude.{List, ℕ, IsTrue};
-    ghost use Rattle.std.specs.Rc.{rc_slice_items};
+    ghost use Rattle.std.specs.Prelude.{List, ℕ, ◌+◌, ◌≤◌, length, IsTrue};
+    ghost use Rattle.pv_text.specs.Pieces.{piece};
     ghost use Rattle.pv_number.specs.Scanning.{is_number};
 
     ghost Value = { List ℕ };
 
-    ghost view = { λ l. rc_slice_items l.bytes };
+    ghost view = { λ l. piece l.start l.len l.block };
 
-    ghost invariant = { λ l. IsTrue (is_number (rc_slice_items l.bytes)) };
+    ghost invariant = { λ l. (l.start + l.len ≤ length l.block)
+        × IsTrue (is_number (piece l.start l.len l.block)) };
 }
 
 impl Lexeme {
-    ghost use Rattle.std.specs.Prelude.{◌≡◌, false, IfOk, OnOk, IsErrOf, IsTrue, ◌↔◌};
+    ghost use Rattle.std.specs.Prelude.{◌≡◌, ◌+◌, ◌≤◌, length, false, IfOk, OnOk, IsErrOf, IsTrue, ◌↔◌};
+    ghost use Rattle.pv_text.specs.Pieces.{piece};
     ghost use Rattle.pv_number.specs.Scanning as spec;
     ghost use Rattle.pv_number.specs.Grammar.{IsNumber};
 
-    /// The lexeme of these bytes, which are a number.
+    /// The `len` bytes of a block from `start` on, which are a number. It is one more owner of the
+    /// block, and no copy; where no further owner can be counted, memory is wanting.
+    #[tactic(auto, using(crate::proofs::Completeness::is_number_complete))]
+    pub fn piece(block: &Block, start: usize, len: usize) -> Result<Lexeme, Memory>
+        requires within { start + len ≤ length block.now }
+        requires number { IsNumber (piece start len block.now) }
+        ensures { IfOk result (λ l. l ≡ piece start len block.now) }
+    {
+        let _ = block.len();
+        match block.share() {
+            Some(block) => Ok(Lexeme {
+                block,
+                start: start as u32,
+                len: len as u32,
+            }),
+            None => Err(Memory),
+        }
+    }
+
+    /// A copy of these bytes, which are a number. One of 4 GiB or more is want of memory.
     #[tactic(auto, using(crate::proofs::Completeness::is_number_complete))]
     pub fn from_number(alloc: Global, b: &[u8]) -> Result<Lexeme, Memory>
         requires { IsNumber b.now }
         ensures { IfOk result (λ l. l ≡ b.now) }
     {
+        let block = Block::from_slice(alloc, b)?;
+        let len = block.len();
         Ok(Lexeme {
-            bytes: RcSlice::from_slice(alloc, b)?,
+            block,
+            start: 0,
+            len: len as u32,
         })
     }
 
@@ -68,16 +95,21 @@ impl Lexeme {
         ensures number { IsNumber result.now }
         ensures scanned { IsTrue (spec.is_number result.now) }
     {
-        self.bytes.as_slice()
+        let start = self.start as usize;
+        &self.block.as_slice()[start..start + self.len as usize]
     }
 
     /// One more owner of the same lexeme. Where no further owner can be counted, it is a copy.
     pub fn share(&self, alloc: Global) -> Result<Lexeme, Memory>
         ensures { IfOk result (λ l. l ≡ self.now) }
     {
-        match self.bytes.clone() {
-            Ok(bytes) => Ok(Lexeme { bytes }),
-            Err(_) => Lexeme::from_number(alloc, self.as_slice()),
+        match self.block.share() {
+            Some(block) => Ok(Lexeme {
+                block,
+                start: self.start,
+                len: self.len,
+            }),
+            None => Lexeme::from_number(alloc, self.as_slice()),
         }
     }
 }

@@ -8,8 +8,7 @@ mod exponent;
 mod laws;
 mod lexeme;
 mod scanning;
-#[cfg(test)]
-mod tests;
+mod short;
 mod value;
 mod written;
 

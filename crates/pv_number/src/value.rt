@@ -9,6 +9,7 @@ use crate::decimal::{Decimal, Exponent};
 use crate::exact::Whole;
 use crate::exponent::exponent_difference;
 use crate::lexeme::Lexeme;
+use crate::short::short_integer;
 
 /// `value` times ten to the `power`.
 #[tactic(auto, using(crate::proofs::WholeValue::power_more, crate::proofs::WholeValue::power_large))]
@@ -73,9 +74,13 @@ fn whole_of(decimal: &Decimal) -> Whole
 
 /// The whole number that the lexeme stands for. Zeros behind the point, and an exponent that
 /// moves the point behind the last digit, leave a number whole: `3.0` and `30e-1` are 3. Takes time in proportion to the length.
+#[tactic(auto, using(crate::proofs::WrittenIntegers::integer_whole))]
 pub fn whole(lexeme: &Lexeme) -> Whole
     ensures { spec.IsWhole (spec.number lexeme.now) result }
 {
+    if let Some(n) = short_integer(lexeme.as_slice()) {
+        return Whole::Fits(n);
+    }
     whole_of(&Decimal::of(lexeme))
 }
 

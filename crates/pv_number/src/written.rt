@@ -3,6 +3,7 @@ ghost use Rattle.pv_number.specs.WrittenIntegers as spec;
 
 use crate::exact::Whole;
 use crate::lexeme::Lexeme;
+use crate::short::short_integer;
 use crate::value::{is_integer, whole};
 
 /// The integer that is written there without a point and an exponent, where it fits 128 bits.
@@ -10,6 +11,9 @@ use crate::value::{is_integer, whole};
 pub fn integer(lexeme: &Lexeme) -> Option<i128>
     ensures { result ≡ spec.integer lexeme.now }
 {
+    if let Some(n) = short_integer(lexeme.as_slice()) {
+        return Some(n);
+    }
     if !is_integer(lexeme) {
         return None;
     }

@@ -61,6 +61,14 @@ impl ByteBuf {
         self.bytes.as_slice()
     }
 
+    /// The bytes as a list, with no copy.
+    pub fn into_vec(self) -> Vec<u8>
+        ensures { result.items ≡ self }
+    {
+        let ByteBuf { bytes } = self;
+        bytes
+    }
+
     /// Keeps the first `len` bytes.
     pub fn cut(&mut self, len: usize)
         requires { len ≤ length self.old }

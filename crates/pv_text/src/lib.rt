@@ -1,13 +1,13 @@
 //! Texts, bytes and growing bytes: what every other crate is written over.
 #![tactic(auto)]
 
+mod block;
 mod byte_buf;
 mod bytes;
 mod memory;
-#[cfg(test)]
-mod tests;
 mod text;
 
+pub use block::Block;
 pub use byte_buf::ByteBuf;
 pub use bytes::Bytes;
 pub use memory::Memory;
