@@ -1,18 +1,15 @@
 //! JSON documents as trees, the values that validation gives, and locations in both.
 #![tactic(auto)]
 
-mod building;
 mod copying;
 mod location;
 mod making;
+mod merging;
 mod plain;
 mod row;
-#[cfg(test)]
-mod tests;
 mod tree;
 mod value;
 
-pub use building::Building;
 pub use location::{Loc, Step};
 pub use plain::plain_value;
 pub use row::Row;

@@ -10,6 +10,20 @@ pub enum Step {
     Index(u64),
 }
 
+impl Step {
+    ghost use Rattle.std.specs.Prelude.{◌≡◌, IfOk};
+
+    /// An equal step. A name in it is shared.
+    pub fn copy(&self, alloc: Global) -> Result<Step, Memory>
+        ensures { IfOk result (λ s. s ≡ self.now) }
+    {
+        match self {
+            Step::Name(name) => Ok(Step::Name(name.share(alloc)?)),
+            Step::Index(place) => Ok(Step::Index(*place)),
+        }
+    }
+}
+
 impl Default for Step {
     fn default() -> Step {
         Step::Index(0)
@@ -32,7 +46,7 @@ impl Model for Loc {
 }
 
 impl Loc {
-    ghost use Rattle.std.specs.Prelude.{◌≡◌, ◌<◌, [], ◌∷◌, ◌++◌, length, drop, slice_get, OnOk, OnErr, OnSome};
+    ghost use Rattle.std.specs.Prelude.{◌≡◌, ◌<◌, ◌≤◌, [], ◌∷◌, ◌++◌, length, take, drop, slice_get, IfOk, OnOk, OnErr, OnSome};
     ghost use Rattle.std.specs.Option.{option_copied};
 
     pub fn new(alloc: Global) -> Loc
@@ -49,6 +63,25 @@ impl Loc {
     {
         self.steps.push(step)?;
         Ok(())
+    }
+
+    /// An equal location. The names in it are shared.
+    pub fn copy(&self, alloc: Global) -> Result<Loc, Memory>
+        ensures { IfOk result (λ l. l ≡ self.now) }
+    {
+        let mut copy = Loc::new(alloc);
+        for step in self.steps.as_slice() {
+            copy.push(step.copy(alloc)?)?;
+        }
+        Ok(copy)
+    }
+
+    /// Keeps the first `len` steps.
+    pub fn cut(&mut self, len: usize)
+        requires { len ≤ length self.old }
+        ensures { self.new ≡ take len self.old }
+    {
+        self.steps.truncate(len);
     }
 
     /// Puts a step before all others.

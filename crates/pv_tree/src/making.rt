@@ -1,25 +1,13 @@
 //! How trees are made.
 
 ghost use Rattle.std.specs.Prelude.{◌≡◌, IfOk};
-ghost use Rattle.pv_tree.specs.Merging.{put_all, merged};
+ghost use Rattle.pv_tree.specs.Merging.{merged};
 
-use crate::building::Building;
+use crate::merging::merge;
 use crate::row::Row;
 use crate::tree::{Members, Tree, Trees};
 use pv_text::{Memory, Text};
 use std::alloc::Global;
-
-/// The members in their order, a repeated name merged.
-#[tactic(auto, unfolding(crate::specs::Merging::merged))]
-fn merge(alloc: Global, mut members: Vec<(Text, Tree)>) -> Result<Vec<(Text, Tree)>, Memory>
-    ensures { IfOk result (λ all. all.items ≡ merged members.items) }
-{
-    let mut building = Building::new(alloc);
-    for (name, value) in members {
-        building.put(name, value)?;
-    }
-    building.into_members(alloc)
-}
 
 #[cycle(share)]
 fn share_trees(alloc: Global, items: &Trees) -> Result<Trees, Memory>
