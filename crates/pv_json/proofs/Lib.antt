@@ -1,3 +1,6 @@
+pub mod Suffixes
+pub mod PlainTexts
+pub mod EndLaws
 pub mod Items
 pub mod Steps
 pub mod Left

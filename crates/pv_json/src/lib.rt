@@ -2,11 +2,11 @@
 #![tactic(auto)]
 
 mod fault;
+mod plain;
 mod reading;
+mod rest;
 mod strings;
 mod symbols;
-#[cfg(test)]
-mod tests;
 mod values;
 
 pub use fault::ReadFault;

@@ -4,7 +4,9 @@ ghost use Rattle.pv_json_grammar.specs.Spells.{SpellsDocument};
 ghost use Rattle.pv_json.specs.Refuses.{IsWithoutTree, Refuses};
 
 use crate::fault::{ReadError, ReadFault};
+use crate::rest::Rest;
 use crate::values::document;
+use pv_text::Block;
 use pv_tree::Tree;
 use std::alloc::Global;
 
@@ -16,7 +18,8 @@ fn read_whole(alloc: Global, input: &[u8]) -> Result<Tree, ReadFault>
     ensures tree { IfOk result (λ t. spec.document NESTING input.now ≡ Ok t) }
     ensures fault { IfErr result (λ e. Refuses e (spec.document NESTING input.now) (length input.now)) }
 {
-    match document(alloc, NESTING, input) {
+    let block = Block::from_slice(alloc, input)?;
+    match document(alloc, NESTING, &Rest::new(&block)) {
         Ok(tree) => Ok(tree),
         Err(ReadError::Memory) => Err(ReadFault::Memory),
         Err(ReadError::Fault(0)) => Err(ReadFault::End),
@@ -27,7 +30,8 @@ fn read_whole(alloc: Global, input: &[u8]) -> Result<Tree, ReadFault>
 }
 
 /// The tree that the whole input spells (RFC 8259, in UTF-8), of which at most `NESTING` containers nest.
-/// Time is linear in the input. The answer names the place of the first byte that fits nowhere, by the
+/// The texts and numbers of the tree are pieces of one copy of the input, which lives as long as one of
+/// them. Time is linear in the input. An input of 4 GiB or more is want of memory. The answer names the place of the first byte that fits nowhere, by the
 /// reading of values in order.
 pub fn read(alloc: Global, input: &[u8]) -> Result<Tree, ReadFault>
     // A tree comes exactly where the grammar has one.

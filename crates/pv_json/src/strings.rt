@@ -7,6 +7,8 @@ ghost use Rattle.pv_json_grammar.specs.Strings as spec;
 ghost use Rattle.pv_json.specs.Gives.{Gives};
 
 use crate::fault::ReadError;
+use crate::plain::plain_len;
+use crate::rest::Rest;
 use crate::symbols::byte_in;
 use pv_text::{ByteBuf, Memory, Text};
 use std::alloc::Global;
@@ -253,10 +255,14 @@ fn characters(alloc: Global, s: &[u8]) -> Result<(ByteBuf, &[u8]), ReadError>
 }
 
 /// A text behind its opening quote, and what follows its closing quote.
-pub(crate) fn text(alloc: Global, s: &[u8]) -> Result<(Text, &[u8]), ReadError>
-    ensures { Gives (λ x. (x.0, x.1.now)) result (spec.string s.now) }
+#[tactic(auto, using(crate::proofs::Suffixes::string_rest))]
+pub(crate) fn text<'a>(alloc: Global, s: &Rest<'a>) -> Result<(Text, Rest<'a>), ReadError>
+    ensures { Gives (λ x. (x.0, x.1)) result (spec.string s.now) }
 {
-    let (bytes, rest) = characters(alloc, s)?;
-    let text = Text::from_utf8(alloc, bytes.as_slice())?;
-    Ok((text, rest))
+    if let Some(len) = plain_len(s.as_slice()) {
+        return Ok((s.text(len)?, s.after(len + 1)));
+    }
+    let (bytes, rest) = characters(alloc, s.as_slice())?;
+    let text = Text::from_utf8(bytes.into_vec())?;
+    Ok((text, s.after(s.len() - rest.len())))
 }

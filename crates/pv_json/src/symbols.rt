@@ -1,10 +1,11 @@
 //! Single bytes, white space and words. An `Err` tells how many bytes are left at the first that fits nowhere.
 
-ghost use Rattle.std.specs.Prelude.{◌≡◌};
+ghost use Rattle.std.specs.Prelude.{◌≡◌, ◌≤◌, length, drop};
 ghost use Rattle.pv_json_grammar.specs.Reading as spec;
 ghost use Rattle.pv_json.specs.Gives.{Gives};
 
 use crate::fault::ReadError;
+use crate::rest::Rest;
 
 /// A byte of this range, and what follows it.
 #[tactic(auto, unfolding(pv_json_grammar::specs::Reading::byte_in))]
@@ -23,32 +24,44 @@ pub(crate) fn byte_in(least: u8, most: u8, s: &[u8]) -> Result<(u8, &[u8]), Read
 
 /// What follows this byte.
 #[tactic(auto, unfolding(pv_json_grammar::specs::Reading::past))]
-pub(crate) fn past(byte: u8, s: &[u8]) -> Result<&[u8], ReadError>
-    ensures { Gives (λ x. x.now) result (spec.past byte s.now) }
+pub(crate) fn past<'a>(byte: u8, s: &Rest<'a>) -> Result<Rest<'a>, ReadError>
+    ensures { Gives (λ x. x) result (spec.past byte s.now) }
 {
-    let [b, rest @ ..] = s else {
+    let [b, rest @ ..] = s.as_slice() else {
         return Err(ReadError::Fault(0));
     };
     if *b != byte {
-        return Err(ReadError::Fault(s.len()));
+        return Err(ReadError::Fault(rest.len() + 1));
     }
-    Ok(rest)
+    Ok(s.after(1))
+}
+
+/// How many bytes of white space stand at the front.
+#[tactic(auto, unfolding(pv_json_grammar::specs::Reading::skip))]
+fn blank_len(s: &[u8]) -> usize
+    ensures within { result ≤ length s.now }
+    ensures value { drop result s.now ≡ spec.skip s.now }
+{
+    let mut n = 0;
+    for b in s {
+        if !matches!(b, b' ' | b'\t' | b'\n' | b'\r') {
+            return n;
+        }
+        n += 1;
+    }
+    n
 }
 
 /// What follows the white space.
-#[tactic(auto, unfolding(pv_json_grammar::specs::Reading::skip))]
-pub(crate) fn skip(mut s: &[u8]) -> &[u8]
-    ensures { result.now ≡ spec.skip s.entry.now }
+pub(crate) fn skip<'a>(s: &Rest<'a>) -> Rest<'a>
+    ensures { result ≡ spec.skip s.now }
 {
-    while let [b' ' | b'\t' | b'\n' | b'\r', rest @ ..] = s {
-        s = rest;
-    }
-    s
+    s.after(blank_len(s.as_slice()))
 }
 
 /// What follows this word.
 #[tactic(auto, unfolding(pv_json_grammar::specs::Reading::after))]
-pub(crate) fn after<'a>(mut word: &[u8], mut s: &'a [u8]) -> Result<&'a [u8], ReadError>
+fn behind<'a>(mut word: &[u8], mut s: &'a [u8]) -> Result<&'a [u8], ReadError>
     ensures { Gives (λ x. x.now) result (spec.after word.entry.now s.entry.now) }
 {
     while let [w, more @ ..] = word {
@@ -62,4 +75,13 @@ pub(crate) fn after<'a>(mut word: &[u8], mut s: &'a [u8]) -> Result<&'a [u8], Re
         s = rest;
     }
     Ok(s)
+}
+
+/// What follows this word, where it stands there.
+#[tactic(auto, using(crate::proofs::Suffixes::word_within, crate::proofs::Suffixes::word_behind))]
+pub(crate) fn after<'a>(word: &[u8], s: &Rest<'a>) -> Result<Rest<'a>, ReadError>
+    ensures { Gives (λ x. x) result (spec.after word.now s.now) }
+{
+    let _behind = behind(word, s.as_slice())?;
+    Ok(s.after(word.len()))
 }

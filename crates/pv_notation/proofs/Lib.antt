@@ -1,3 +1,4 @@
+pub mod Escapes
 pub mod Fronts
 pub mod Joins
 pub mod Objects

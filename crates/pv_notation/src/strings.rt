@@ -1,6 +1,7 @@
 //! JSON strings (RFC 8259, section 7).
 
-ghost use Rattle.std.specs.Prelude.{◌≡◌, ◌<◌, ◌++◌, OnOk, OnErr};
+ghost use Rattle.std.specs.Prelude.{◌≡◌, ◌<◌, [], ◌∷◌, ◌++◌, OnOk, OnErr};
+ghost use Rattle.std.specs.Bool.{OnFalse};
 ghost use Rattle.std.specs.List.{flat_map};
 ghost use Rattle.pv_notation.specs.Strings as spec;
 ghost use Rattle.pv_notation.specs.Strings.{escaped, quoted, hex_byte};
@@ -53,33 +54,78 @@ fn write_escaped(b: u8, out: &mut ByteBuf) -> Result<(), Memory>
     out.push(b)
 }
 
-/// Appends a text as it stands between the quotes of a JSON string. After a refusal `out` may hold a part of it.
-#[tactic(auto, using(crate::proofs::Fronts::fronts))]
-pub fn write_all_escaped(text: &[u8], out: &mut ByteBuf) -> Result<(), Memory>
+/// Whether a byte does not stand for itself.
+#[tactic(auto, using(crate::proofs::Escapes::plain_byte))]
+fn is_escaped(b: u8) -> bool
+    ensures { OnFalse result (escaped b ≡ b ∷ []) }
+{
+    b < 32 || b == b'"' || b == b'\\'
+}
+
+/// Appends a text as it stands between the quotes, a run of bytes that stand for themselves at a time.
+#[tactic(auto, using(crate::proofs::Fronts::fronts, crate::proofs::Escapes::runs))]
+fn append_escaped(text: &[u8], out: &mut ByteBuf) -> Result<(), Memory>
     ensures ok { OnOk result (out.new ≡ out.old ++ flat_map escaped text.now) }
     ensures err { OnErr result (IsFront out.old out.new) }
 {
-    for b in text {
-        write_escaped(*b, out)?;
+    let mut start = 0;
+    for (place, b) in text.iter().enumerate() {
+        if is_escaped(*b) {
+            out.push_slice(&text[start..place])?;
+            write_escaped(*b, out)?;
+            start = place + 1;
+        }
     }
+    out.push_slice(&text[start..])?;
     Ok(())
 }
 
-/// Appends a text as a JSON string. After a refusal `out` may hold a part of it.
 #[tactic(auto, using(crate::proofs::Fronts::fronts))]
-pub fn write_quoted(text: &[u8], out: &mut ByteBuf) -> Result<(), Memory>
+fn append_quoted(text: &[u8], out: &mut ByteBuf) -> Result<(), Memory>
     ensures ok { OnOk result (out.new ≡ out.old ++ quoted text.now) }
     ensures err { OnErr result (IsFront out.old out.new) }
 {
     out.push(b'"')?;
-    write_all_escaped(text, out)?;
+    append_escaped(text, out)?;
     out.push(b'"')?;
     Ok(())
 }
 
+/// Appends a text as it stands between the quotes of a JSON string.
+#[tactic(auto, using(crate::proofs::Fronts::fronts))]
+pub fn write_all_escaped(text: &[u8], out: &mut ByteBuf) -> Result<(), Memory>
+    ensures ok { OnOk result (out.new ≡ out.old ++ flat_map escaped text.now) }
+    ensures err { OnErr result (out.new ≡ out.old) }
+{
+    let mark = out.len();
+    match append_escaped(text, out) {
+        Ok(()) => Ok(()),
+        Err(e) => {
+            out.cut(mark);
+            Err(e)
+        }
+    }
+}
+
+/// Appends a text as a JSON string.
+#[tactic(auto, using(crate::proofs::Fronts::fronts))]
+pub fn write_quoted(text: &[u8], out: &mut ByteBuf) -> Result<(), Memory>
+    ensures ok { OnOk result (out.new ≡ out.old ++ quoted text.now) }
+    ensures err { OnErr result (out.new ≡ out.old) }
+{
+    let mark = out.len();
+    match append_quoted(text, out) {
+        Ok(()) => Ok(()),
+        Err(e) => {
+            out.cut(mark);
+            Err(e)
+        }
+    }
+}
+
 /// Appends two hexadecimal digits for each byte, in lower case. After a refusal `out` may hold a part of them.
 #[tactic(auto, using(crate::proofs::Fronts::fronts))]
-pub fn write_bytes_hex(bytes: &[u8], out: &mut ByteBuf) -> Result<(), Memory>
+pub(crate) fn write_bytes_hex(bytes: &[u8], out: &mut ByteBuf) -> Result<(), Memory>
     ensures ok { OnOk result (out.new ≡ out.old ++ flat_map hex_byte bytes.now) }
     ensures err { OnErr result (IsFront out.old out.new) }
 {

@@ -1,3 +1,4 @@
 pub mod formers
 pub mod Merging
 pub mod Plain
+pub mod Merged

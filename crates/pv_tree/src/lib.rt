@@ -2,6 +2,7 @@
 #![tactic(auto)]
 
 mod copying;
+mod laws;
 mod location;
 mod making;
 mod merging;
@@ -10,6 +11,7 @@ mod row;
 mod tree;
 mod value;
 
+pub use laws::merging_keeps_first_places_and_last_values;
 pub use location::{Loc, Step};
 pub use plain::plain_value;
 pub use row::Row;

@@ -65,10 +65,7 @@ fn put<V: Drop>(
 }
 
 #[tactic(auto, unfolding(crate::specs::Merging::merged))]
-fn merge_repeated<V: Drop>(
-    alloc: Global,
-    members: Vec<(Text, V)>,
-) -> Result<Vec<(Text, V)>, Memory>
+fn merge_repeated<V: Drop>(alloc: Global, members: Vec<(Text, V)>) -> Result<Vec<(Text, V)>, Memory>
     ensures { IfOk result (λ all. all.items ≡ merged members.items) }
 {
     let mut kept = Vec::new(alloc);

@@ -14,5 +14,5 @@ fault nesting bs left e some =
 pub overflow_sub-result : goal.overflow_sub-result
 overflow_sub-result c = document_left NESTING c.args.input.now c.in-Err-Fault.left (search rules)
 
-pub returns-in-Err-Fault-clause-fault : goal.returns-in-Err-Fault-clause-fault
-returns-in-Err-Fault-clause-fault c = fault NESTING c.args.input.now c.in-Err-Fault.left (search rules) (search rules)
+pub returns-clause-fault : goal.returns-clause-fault
+returns-clause-fault c = fault NESTING c.args.input.now c.in-Err-Fault.left (search rules) (search rules)

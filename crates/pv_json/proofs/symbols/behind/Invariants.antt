@@ -1,6 +1,6 @@
 use Rattle.std.proofs.Common.{◌≡◌, length}
 use Rattle.pv_json_grammar.specs.Reading as spec
-use Rattle.pv_json.proofs.symbols.after.Given as goal
+use Rattle.pv_json.proofs.symbols.behind.Given as goal
 
 abbrev pub invariant-loop-word : goal.invariant-loop-word
 invariant-loop-word l = spec.after l.word l.s ≡ spec.after l.fn.word l.fn.s

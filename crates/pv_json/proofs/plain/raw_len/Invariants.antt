@@ -1,0 +1,7 @@
+use Rattle.std.proofs.Common.{◌≡◌, take}
+use Rattle.std.specs.List.{flat_map}
+use Rattle.pv_notation.specs.Strings.{escaped}
+use Rattle.pv_json.proofs.plain.raw_len.Given as goal
+
+abbrev pub invariant-loop-b : goal.invariant-loop-b
+invariant-loop-b l = (l.n ≡ l.b-index) × (flat_map escaped (take l.b-index l.s) ≡ take l.b-index l.s)
