@@ -5,8 +5,6 @@ mod fault;
 mod reading;
 mod strings;
 mod symbols;
-#[cfg(test)]
-mod tests;
 mod values;
 
 pub use fault::ReadFault;

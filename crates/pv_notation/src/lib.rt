@@ -4,8 +4,6 @@
 mod laws;
 mod locations;
 mod strings;
-#[cfg(test)]
-mod tests;
 mod trees;
 mod values;
 

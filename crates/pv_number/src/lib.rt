@@ -8,8 +8,6 @@ mod exponent;
 mod laws;
 mod lexeme;
 mod scanning;
-#[cfg(test)]
-mod tests;
 mod value;
 mod written;
 

@@ -4,8 +4,6 @@
 mod byte_buf;
 mod bytes;
 mod memory;
-#[cfg(test)]
-mod tests;
 mod text;
 
 pub use byte_buf::ByteBuf;

@@ -7,8 +7,6 @@ mod location;
 mod making;
 mod plain;
 mod row;
-#[cfg(test)]
-mod tests;
 mod tree;
 mod value;
 
