@@ -8,8 +8,6 @@ mod lines;
 mod running;
 mod schema;
 mod status;
-#[cfg(test)]
-mod tests;
 mod working;
 
 pub use answer::Answer;

@@ -10,6 +10,3 @@ mod tally;
 
 pub use errors::type_error;
 pub use gather::Gather;
-
-#[cfg(test)]
-mod tests;

@@ -4,8 +4,6 @@
 mod answers;
 mod laws;
 mod reading;
-#[cfg(test)]
-mod tests;
 mod words;
 
 pub use answers::{Command, WordsFault};

@@ -9,8 +9,6 @@ mod shelf;
 mod sink;
 mod std_shelf;
 mod std_sink;
-#[cfg(test)]
-mod tests;
 
 pub use loading::{LoadFault, load};
 pub use mem_shelf::{MemShelf, PutFault};

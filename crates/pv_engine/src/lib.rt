@@ -6,8 +6,6 @@ mod level;
 mod one_error;
 mod positions;
 mod rules;
-#[cfg(test)]
-mod tests;
 mod validating;
 
 pub use laws::means_the_same;

@@ -5,8 +5,6 @@ mod hashability;
 mod laws;
 mod leaves;
 mod sameness;
-#[cfg(test)]
-mod tests;
 
 pub use hashability::hashable;
 pub use laws::{entries_come_one_by_one, items_come_one_by_one, sameness_is_equivalence};

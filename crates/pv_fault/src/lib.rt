@@ -22,6 +22,3 @@ pub use laws::part_by_part;
 pub use messages::{write_message, write_type};
 pub use outcome::Outcome;
 pub use printing::write_faults;
-
-#[cfg(test)]
-mod tests;

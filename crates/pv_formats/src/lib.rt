@@ -2,8 +2,6 @@
 #![tactic(auto)]
 
 mod patterns;
-#[cfg(test)]
-mod tests;
 mod urls;
 mod uuids;
 

@@ -4,8 +4,6 @@
 mod laws;
 mod multiples;
 mod numeric_strings;
-#[cfg(test)]
-mod tests;
 mod whole_numbers;
 
 pub use laws::{multiples_are_products, numeric_strings_are_numerals, whole_numbers_are_answers};

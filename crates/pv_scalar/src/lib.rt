@@ -12,8 +12,6 @@ mod listing;
 mod literals;
 mod places;
 mod schemes;
-#[cfg(test)]
-mod tests;
 mod texts;
 mod validation;
 mod values;

@@ -19,8 +19,6 @@ mod reading;
 mod refusing;
 mod rules;
 mod table;
-#[cfg(test)]
-mod tests;
 
 pub use fault::{Code, Refusal, SchemaFault, ShapeCode};
 pub use kind::Kind;

@@ -8,8 +8,6 @@ mod members;
 mod numbers;
 mod plain_values;
 mod sub_types;
-#[cfg(test)]
-mod tests;
 mod texts;
 mod value_kind;
 mod values;

@@ -1,9 +1,6 @@
 //! The program: its words, files and streams are the machine's.
 #![tactic(auto)]
 
-#[cfg(test)]
-mod tests;
-
 use pv_cli::{Status, Words, run};
 use pv_edge::{StdShelf, StdSink, put_all};
 use pv_text::Memory;

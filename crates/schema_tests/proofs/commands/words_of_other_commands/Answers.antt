@@ -11,7 +11,7 @@ use Rattle.pv_command.specs.Operands.{behind}
 use Rattle.pv_command.specs.Command.{asked_from, step, command}
 use Rattle.pv_command.proofs.Completions.{true_is_pick}
 use Rattle.pv_command.proofs.Levels.{role_num}
-use Rattle.pv_command.proofs.tests.words_of_other_commands.Goals as goal
+use Rattle.schema_tests.proofs.commands.words_of_other_commands.Goals as goal
 
 three_is_none : pick_of (codes "3") ≡ None
 unfolding pick_of document value after skip number number_len digits minus_len sign_len whole_len fraction_len exponent_len

@@ -1,0 +1,36 @@
+use crate::fixtures::{compact, location, notation, text, tree};
+use pv_tree::{Loc, Step, Tree, plain_value};
+
+#[test]
+fn a_repeated_name_keeps_its_place_and_its_last_value(rt: HostRuntime) {
+    let alloc = rt.alloc();
+    let read = tree(&rt, alloc, r#"{"b":true,"a":null,"b":7}"#);
+    let merged = read.share(alloc).expect(&rt, "memory");
+    assert_eq!(rt;
+        compact(&rt, alloc, &merged).as_slice(),
+        br#"{"b":7,"a":null}"#.as_slice()
+    );
+    let mut items = Vec::new(alloc);
+    items.push(merged).expect(&rt, "memory");
+    let array = Tree::array(alloc, items).expect(&rt, "memory");
+    let plain = plain_value(alloc, &array).expect(&rt, "memory");
+    let copied = plain.copy(alloc).expect(&rt, "memory");
+    let want = br#"[{"dict":[["b",7],["a",null]]}]"#.as_slice();
+    assert_eq!(rt; notation(&rt, alloc, &copied).as_slice(), want);
+}
+
+#[test]
+fn locations_grow_at_both_ends(rt: HostRuntime) {
+    let alloc = rt.alloc();
+    let mut loc = Loc::new(alloc);
+    loc.push(Step::Index(3)).expect(&rt, "memory");
+    loc.push_front(Step::Name(text(&rt, alloc, "a")))
+        .expect(&rt, "memory");
+    loc.push(Step::Index(12)).expect(&rt, "memory");
+    assert_eq!(rt;
+        location(&rt, alloc, &loc).as_slice(),
+        br#"["a",3,12]"#.as_slice()
+    );
+    loc.drop_front();
+    assert_eq!(rt; location(&rt, alloc, &loc).as_slice(), b"[3,12]".as_slice());
+}

@@ -1,0 +1,161 @@
+//! Runs with large files, and with each failing read and write in turn.
+
+ghost use Rattle.std.specs.Prelude.{◌≡◌};
+
+use crate::fixtures::text;
+use pv_cli::{Status, Words, run};
+use pv_edge::{MemShelf, MemSink};
+use pv_text::Bytes;
+use std::alloc::Global;
+use std::process::Abort;
+
+/// How many bytes a read gives, how many standard output takes, and which calls fail.
+#[derive(Clone, Copy)]
+struct Setting {
+    piece: usize,
+    room: usize,
+    failing_read: Option<u64>,
+    failing_write: Option<u64>,
+}
+
+const AMPLE: Setting = Setting {
+    piece: 100_000,
+    room: 10_000,
+    failing_read: None,
+    failing_write: None,
+};
+
+/// What a run left.
+#[derive(Drop)]
+struct Left {
+    status: Status,
+    out: MemSink,
+    err: MemSink,
+}
+
+const INT: &[u8] = br#"{"type":"int"}"#;
+
+fn validate(rt: &impl Abort, alloc: Global) -> Words {
+    let mut words = Words::new(alloc);
+    for word in ["validate", "S", "D"] {
+        words.push(word).expect(rt, "memory");
+    }
+    words
+}
+
+fn file(rt: &impl Abort, alloc: Global, content: &[u8]) -> Bytes {
+    Bytes::from_slice(alloc, content).expect(rt, "memory")
+}
+
+/// A shelf with the files `S` and `D`.
+fn shelf_of(rt: &impl Abort, alloc: Global, setting: &Setting, document: &[u8]) -> MemShelf
+    ensures given { result.given ≡ 0 }
+    ensures faults { result.faults ≡ 0 }
+{
+    let mut shelf = MemShelf::new(alloc, setting.piece.max(1));
+    shelf
+        .put(text(rt, alloc, "S"), file(rt, alloc, INT))
+        .expect(rt, "a file");
+    shelf
+        .put(text(rt, alloc, "D"), file(rt, alloc, document))
+        .expect(rt, "a file");
+    if let Some(call) = setting.failing_read {
+        shelf.fail(call).expect(rt, "memory");
+    }
+    shelf
+}
+
+fn sink_of(rt: &impl Abort, alloc: Global, room: usize, failing: Option<u64>) -> MemSink
+    ensures { result.faults ≡ 0 }
+{
+    let mut sink = MemSink::new(alloc, 7, room).expect(rt, "memory");
+    if let Some(call) = failing {
+        sink.fail(call).expect(rt, "memory");
+    }
+    sink
+}
+
+/// What is left where the document is validated by `INT`.
+fn left_by(rt: &impl Abort, alloc: Global, setting: &Setting, document: &[u8]) -> Left {
+    let words = validate(rt, alloc);
+    let mut shelf = shelf_of(rt, alloc, setting, document);
+    let mut out = sink_of(rt, alloc, setting.room, setting.failing_write);
+    let mut err = sink_of(rt, alloc, 1000, None);
+    let status = run(alloc, &words, &mut shelf, &mut out, &mut err);
+    Left { status, out, err }
+}
+
+/// A three behind so many spaces.
+fn spaced(rt: &impl Abort, alloc: Global, spaces: usize) -> Vec<u8> {
+    let mut document = Vec::new(alloc);
+    for _ in 0..spaces {
+        document.push(b' ').expect(rt, "memory");
+    }
+    document.push(b'3').expect(rt, "memory");
+    document
+}
+
+#[test]
+fn files_have_four_mebibytes_at_most(rt: HostRuntime) {
+    let alloc = rt.alloc();
+    let largest = left_by(&rt, alloc, &AMPLE, spaced(&rt, alloc, 4_194_303).as_slice());
+    assert_eq!(rt; largest.status.code(), 0);
+    assert_eq!(rt; largest.out.taken(), b"3\n".as_slice());
+    let larger = left_by(&rt, alloc, &AMPLE, spaced(&rt, alloc, 4_194_304).as_slice());
+    assert_eq!(rt; larger.status.code(), 5);
+    assert_eq!(rt; larger.err.taken(), b"too large: \"D\"\n".as_slice());
+}
+
+/// The status and the line of each failing call: a pick, two reads and one at the end for the
+/// schema, and the same for the document, whose last one is not needed.
+const READS: [(u64, u8, &str); 9] = [
+    (0, 4, "read failed: \"S\"\n"),
+    (1, 4, "read failed: \"S\"\n"),
+    (2, 4, "read failed: \"S\"\n"),
+    (3, 4, "read failed: \"S\"\n"),
+    (4, 4, "read failed: \"D\"\n"),
+    (5, 4, "read failed: \"D\"\n"),
+    (6, 4, "read failed: \"D\"\n"),
+    (7, 0, ""),
+    (8, 0, ""),
+];
+
+#[test]
+fn each_failing_read_has_its_answer(rt: HostRuntime) {
+    let alloc = rt.alloc();
+    for (call, status, line) in READS {
+        let setting = Setting {
+            piece: 7,
+            failing_read: Some(call),
+            ..AMPLE
+        };
+        let left = left_by(&rt, alloc, &setting, b" 12345 ");
+        assert_eq!(rt; left.status.code(), status, "{call}");
+        assert_eq!(rt; left.err.taken(), line.as_bytes(), "{call}");
+    }
+}
+
+/// How many bytes standard output takes, which of its writes fails, what it took, and the status
+/// and the line.
+const WRITES: [(usize, Option<u64>, &str, u8, &str); 4] = [
+    (1, None, "1", 6, "write failed\n"),
+    (3, None, "123", 6, "write failed\n"),
+    (100, Some(0), "", 6, "write failed\n"),
+    (100, Some(1), "12345\n", 0, ""),
+];
+
+#[test]
+fn each_failing_write_has_its_answer(rt: HostRuntime) {
+    let alloc = rt.alloc();
+    for (room, failing_write, taken, status, line) in WRITES {
+        let setting = Setting {
+            room,
+            failing_write,
+            ..AMPLE
+        };
+        let left = left_by(&rt, alloc, &setting, b"12345");
+        assert_eq!(rt; left.out.taken(), taken.as_bytes(), "{taken}");
+        assert_eq!(rt; left.status.code(), status, "{taken}");
+        assert_eq!(rt; left.err.taken(), line.as_bytes(), "{taken}");
+    }
+}

@@ -1,0 +1,102 @@
+use crate::fixtures::tree;
+use ValueKind::{
+    Anything, AtLeastOne, Count, Engine, False, Flag, Int, Literals, Members, SubType, Text, Texts,
+    Version,
+};
+use pv_rules::Literal;
+use pv_schema_values::{ValueKind, is_value, members_of};
+use std::alloc::Global;
+use std::process::Abort;
+
+const KINDS: [ValueKind; 13] = [
+    Anything, Text, Flag, False, Count, Int, AtLeastOne, Version, Engine, SubType, Texts, Literals,
+    Members,
+];
+
+/// JSON, and the kinds of values that it may stand for.
+const VALUES: [(&str, &[ValueKind]); 44] = [
+    ("null", &[Anything]),
+    ("{}", &[Anything]),
+    ("true", &[Anything, Flag]),
+    ("false", &[Anything, Flag, False]),
+    ("-1", &[Anything, Int]),
+    ("-0", &[Anything, Count, Int]),
+    ("0", &[Anything, Count, Int]),
+    ("1", &[Anything, Count, Int, AtLeastOne, Version]),
+    ("8", &[Anything, Count, Int, AtLeastOne, Version]),
+    ("9", &[Anything, Count, Int, AtLeastOne]),
+    ("4294967295", &[Anything, Count, Int, AtLeastOne]),
+    ("4294967296", &[Anything, Int, AtLeastOne]),
+    ("18446744073709551617", &[Anything, Int, AtLeastOne]),
+    (
+        "170141183460469231731687303715884105727",
+        &[Anything, Int, AtLeastOne],
+    ),
+    ("170141183460469231731687303715884105728", &[Anything]),
+    ("-170141183460469231731687303715884105728", &[Anything, Int]),
+    ("1.0", &[Anything]),
+    ("1e0", &[Anything]),
+    (r#""""#, &[Anything, Text]),
+    (r#""int""#, &[Anything, Text, SubType]),
+    (r#""str""#, &[Anything, Text, SubType]),
+    (r#""float""#, &[Anything, Text]),
+    (r#""Int""#, &[Anything, Text]),
+    (r#""rust-regex""#, &[Anything, Text, Engine]),
+    (r#""python-re""#, &[Anything, Text]),
+    ("[]", &[Anything]),
+    (r#"["a","a"]"#, &[Anything, Texts, Literals]),
+    (r#"[null,true,1,"a"]"#, &[Anything, Literals]),
+    (r#"["a",0.5]"#, &[Anything]),
+    ("[{}]", &[Anything]),
+    ("[1,{}]", &[Anything]),
+    (r#"[["A",1],["B",2]]"#, &[Anything, Members]),
+    (r#"[["A",1],["B","1"]]"#, &[Anything, Members]),
+    (r#"[["A","B"],["B","A"]]"#, &[Anything, Members]),
+    (r#"[["A",1],["A",2]]"#, &[Anything]),
+    (r#"[["A",0],["B",-0]]"#, &[Anything]),
+    (r#"[["A","x"],["B","x"]]"#, &[Anything]),
+    (r#"[["A",true]]"#, &[Anything]),
+    (r#"[["A",null]]"#, &[Anything]),
+    (r#"[["A",2.0]]"#, &[Anything]),
+    ("[[1,1]]", &[Anything]),
+    ("[[]]", &[Anything]),
+    (r#"[["A"]]"#, &[Anything]),
+    (r#"[["A",1,1]]"#, &[Anything]),
+];
+
+#[test]
+fn json_stands_for_values_of_its_kinds(rt: HostRuntime) {
+    let alloc = rt.alloc();
+    for (json, kinds) in VALUES {
+        let tree = tree(&rt, alloc, json.as_bytes());
+        for kind in KINDS {
+            let stands = is_value(alloc, kind, &tree).expect(&rt, "memory");
+            assert_eq!(rt; stands, kinds.contains(&kind), "{json} {kind:?}");
+        }
+    }
+}
+
+/// So many members, each with its place as its name and its value, as JSON.
+fn members(rt: &impl Abort, alloc: Global, count: u32) -> String {
+    let mut json = String::new(alloc);
+    json.push_str("[").expect(rt, "memory");
+    for place in 0..count {
+        let comma = if place == 0 { "" } else { "," };
+        write!(json, "{comma}[\"{place}\",{place}]").expect(rt, "memory");
+    }
+    json.push_str("]").expect(rt, "memory");
+    json
+}
+
+#[test]
+fn a_hundred_thousand_members_are_told_apart(rt: HostRuntime) {
+    let alloc = rt.alloc();
+    let json = members(&rt, alloc, 100_000);
+    let tree = tree(&rt, alloc, json.as_bytes());
+    let members = members_of(alloc, &tree).expect(&rt, "memory");
+    let members = members.expect(&rt, "members");
+    assert_eq!(rt; members.len(), 100_000);
+    let last = members.get(99_999).expect(&rt, "a last member");
+    assert_eq!(rt; last.name.as_str(), "99999");
+    assert!(rt; matches!(last.value, Literal::Int(99_999)));
+}
