@@ -4,7 +4,7 @@ use pv_json::{ReadFault, read};
 const END: Option<ReadFault> = Some(ReadFault::End);
 
 /// Inputs and why they are refused, where they are.
-const INPUTS: [(&[u8], Option<ReadFault>); 60] = [
+const INPUTS: [(&[u8], Option<ReadFault>); 67] = [
     (b"null", None),
     (b"true", None),
     (b"false", None),
@@ -20,6 +20,13 @@ const INPUTS: [(&[u8], Option<ReadFault>); 60] = [
         None,
     ),
     (b"\"\\\"\\\\\\/\\b\\f\\n\\r\\t\"", None),
+    (b"\"\xc3\xa9\"", None),
+    (b"\"a\xc3\xa9\\u0041b\"", None),
+    (b"\"\\n\xc3\xa9c\"", None),
+    (b"\"\xc3\xa9", END),
+    (b"\"\xc3\xa9\\n", END),
+    (b"\"\xc3\xa9\x80\"", Some(ReadFault::Bad { at: 3 })),
+    (b"\"\xc3\xa9\x1f\"", Some(ReadFault::Bad { at: 3 })),
     (b"nul", END),
     (b"-", END),
     (b"1.", END),
@@ -97,9 +104,26 @@ fn documents_are_told_as_trees(rt: HostRuntime) {
         compact(&rt, alloc, &tree(&rt, alloc, document)).as_slice(),
         want.as_bytes()
     );
-    let merged = tree(&rt, alloc, r#"{"a":1,"b":2,"a":[null]}"#);
-    assert_eq!(rt;
-        compact(&rt, alloc, &merged).as_slice(),
-        br#"{"a":[null],"b":2}"#.as_slice()
-    );
+}
+
+/// Objects, and what is kept of them: few names, and more than are compared one by one.
+const REPEATED: [(&str, &str); 3] = [
+    (r#"{"a":1,"b":2,"a":[null]}"#, r#"{"a":[null],"b":2}"#),
+    (
+        r#"{"a":0,"b":1,"c":2,"d":3,"e":4,"f":5,"g":6,"h":7,"i":8,"j":9,"k":10,"l":11,"m":12,"n":13,"o":14,"p":15,"q":16}"#,
+        r#"{"a":0,"b":1,"c":2,"d":3,"e":4,"f":5,"g":6,"h":7,"i":8,"j":9,"k":10,"l":11,"m":12,"n":13,"o":14,"p":15,"q":16}"#,
+    ),
+    (
+        r#"{"a":0,"b":1,"c":2,"d":3,"e":4,"f":5,"g":6,"h":7,"i":8,"j":9,"k":10,"l":11,"m":12,"n":13,"o":14,"p":15,"b":16,"q":17,"a":18}"#,
+        r#"{"a":18,"b":16,"c":2,"d":3,"e":4,"f":5,"g":6,"h":7,"i":8,"j":9,"k":10,"l":11,"m":12,"n":13,"o":14,"p":15,"q":17}"#,
+    ),
+];
+
+#[test]
+fn repeated_names_are_merged(rt: HostRuntime) {
+    let alloc = rt.alloc();
+    for (document, want) in REPEATED {
+        let merged = tree(&rt, alloc, document);
+        assert_eq!(rt; compact(&rt, alloc, &merged).as_slice(), want.as_bytes());
+    }
 }

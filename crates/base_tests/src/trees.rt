@@ -31,6 +31,13 @@ fn locations_grow_at_both_ends(rt: HostRuntime) {
         location(&rt, alloc, &loc).as_slice(),
         br#"["a",3,12]"#.as_slice()
     );
+    let mut copied = loc.copy(alloc).expect(&rt, "memory");
+    assert_eq!(rt; copied.len(), 3);
+    copied.cut(2);
+    assert_eq!(rt;
+        location(&rt, alloc, &copied).as_slice(),
+        br#"["a",3]"#.as_slice()
+    );
     loc.drop_front();
     assert_eq!(rt; location(&rt, alloc, &loc).as_slice(), b"[3,12]".as_slice());
 }
