@@ -4,10 +4,9 @@
 mod laws;
 mod level;
 mod one_error;
+mod parts;
 mod positions;
 mod rules;
-#[cfg(test)]
-mod tests;
 mod validating;
 
 pub use laws::means_the_same;

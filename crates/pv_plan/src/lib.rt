@@ -8,8 +8,6 @@ mod laying;
 mod operations;
 mod plan;
 mod record;
-#[cfg(test)]
-mod tests;
 
 pub use building::build;
 pub use faults::BuildFault;
