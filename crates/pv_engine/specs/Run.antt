@@ -7,6 +7,7 @@ use Rattle.pv_scalar.specs.Scalars.{scalar_of}
 use Rattle.pv_plan.specs.declared.Op.{Op}
 use Rattle.pv_plan.specs.declared.Op.TheVariants as op
 use Rattle.pv_plan.specs.declared.Record.{Record}
+use Rattle.pv_engine.specs.declared.level.Level.{Level}
 use Rattle.pv_engine.specs.Rules.{Child, one_error, no_child, first, collection, nullable}
 use Rattle.pv_engine.specs.Meaning.{strict_in}
 
@@ -24,3 +25,7 @@ at_record run child (Some r) t = operation r.op (strict_in run r.strict) (map ch
 unfoldable pub run_table : List Record → Option Bool → ℕ → ℕ → Tree → Outcome
 run_table table run zero i t = one_error kind.RecursionLoop t
 run_table table run (suc d) i t = at_record run (run_table table run d) (slice_get table i) t
+
+-- the record of a number, at a level
+unfoldable pub given : Level → ℕ → Child
+given level i t = run_table level.table.now level.run level.depth i t

@@ -1,35 +1,42 @@
-ghost use Rattle.std.specs.Prelude.{◌≡◌, IfOk};
-ghost use Rattle.pv_engine.specs.Run.{run_table};
+//! The records of a plan at a depth.
 
-use crate::one_error::one_error;
+ghost use Rattle.std.specs.Prelude.{◌≡◌, IfOk};
+ghost use Rattle.pv_engine.specs.Run.{given};
+
+use crate::one_error::too_deep;
 use crate::rules::Rules;
-use pv_fault::{Kind, Outcome};
+use pv_fault::Outcome;
 use pv_plan::Record;
 use pv_text::Memory;
 use pv_tree::Tree;
 use std::alloc::Global;
 
-/// What the record of a number gives for a tree, to a depth.
-#[tactic(auto, unfolding(crate::specs::Run::run_table))]
-pub(crate) fn validate_at(
-    alloc: Global,
-    table: &[Record],
-    run: Option<bool>,
-    depth: u64,
-    number: u32,
-    tree: &Tree,
-) -> Result<Outcome, Memory>
-    ensures { IfOk result (λ o. o ≡ run_table table.now run depth number tree.now) }
+/// The records of a plan, and how far a run has come in them.
+#[derive(Clone, Copy)]
+pub(crate) struct Level<'a> {
+    pub(crate) alloc: Global,
+    pub(crate) table: &'a [Record],
+    /// The strictness of the run, where it has one.
+    pub(crate) run: Option<bool>,
+    /// At most so many nodes are still entered below one another.
+    pub(crate) depth: u64,
+}
+
+/// What the record of a number gives for a tree, at a level.
+#[tactic(auto, unfolding(crate::specs::Run::given, crate::specs::Run::run_table))]
+pub(crate) fn validate_at(level: &Level<'_>, number: u32, tree: &Tree) -> Result<Outcome, Memory>
+    ensures { IfOk result (λ o. o ≡ given level.now number tree.now) }
 {
-    if depth == 0 {
-        return one_error(alloc, Kind::RecursionLoop, tree);
+    if level.depth == 0 {
+        return too_deep(level.alloc, tree);
     }
+    let below = Level {
+        depth: level.depth - 1,
+        ..*level
+    };
     Rules {
-        alloc,
-        table,
-        run,
-        depth: depth - 1,
-        below: validate_at,
+        below,
+        validate: validate_at,
     }
     .at(number, tree)
 }

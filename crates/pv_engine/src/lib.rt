@@ -4,6 +4,7 @@
 mod laws;
 mod level;
 mod one_error;
+mod parts;
 mod positions;
 mod rules;
 mod validating;

@@ -1,7 +1,7 @@
 ghost use Rattle.std.specs.Prelude.{◌≡◌, IfOk};
 ghost use Rattle.pv_engine.specs.Meaning.{full_depth, meaning};
 
-use crate::level::validate_at;
+use crate::level::{Level, validate_at};
 use pv_fault::Outcome;
 use pv_plan::Plan;
 use pv_text::Memory;
@@ -21,6 +21,11 @@ pub fn validate(
 ) -> Result<Outcome, Memory>
     ensures { IfOk result (λ o. o ≡ meaning strict full_depth plan.now t.now) }
 {
-    let outcome = validate_at(alloc, plan.as_slice(), strict, DEPTH, plan.root(), t)?;
-    Ok(outcome)
+    let level = Level {
+        alloc,
+        table: plan.as_slice(),
+        run: strict,
+        depth: DEPTH,
+    };
+    validate_at(&level, plan.root(), t)
 }

@@ -21,7 +21,7 @@ use Rattle.pv_plan.specs.Records.{or_any, own_strict}
 use Rattle.pv_scalar.specs.Tests.{Graded, outcome_of}
 use Rattle.pv_scalar.specs.Scalars.{scalar_of, answer_of}
 use Rattle.pv_collect.specs.Gathering.{Part, Pair, items_errors, missing_of, wanted, measured, unless_errors, type_error, pair_errors, gather_items, gather_pairs}
-use Rattle.pv_engine.specs.Rules.{Child, one_error, part, placed, pair, sequence, sequence_at, tuple, tuple_at, dict, dict_at, first, second, collection, collection_of, nullable, nullable_at}
+use Rattle.pv_engine.specs.Rules.{Child, one_error, part, placed, pair, items_of, members_of, is_null, sequence, sequence_in, tuple, tuple_in, dict, dict_in, first, second, collection, collection_of, nullable, nullable_in}
 use Rattle.pv_engine.specs.Meaning.{meaning, node, node_at, strict_in}
 use Rattle.pv_laws.specs.Located.{IsOutcomeOf}
 use Rattle.pv_laws.proofs.Each.{each_append}
@@ -52,17 +52,17 @@ unfolding gather_pairs
 object_located r t ps are = unless_located t (flat_map pair_errors ps) _ are (search measured_located)
 
 -- a tree by its opened level
-sequence_located : (r : GatherRule) (item : Child) → Locates item → (t : Tree) (x : Tree-F Tree) → out-Tree t ≡ x → IsOutcomeOf t (sequence_at r item t x)
+sequence_located : (r : GatherRule) (item : Child) → Locates item → (t : Tree) (x : Tree-F Tree) → out-Tree t ≡ x → IsOutcomeOf t (sequence_in r item t (items_of x))
 sequence_located r item is t (Tree-F.Array ts) opens =
     array_located r t ts (map (part item) ts) opens (sequence_parts t ts opens item is 0 ts (λ j k e. ap (slice_get ts) (omega arith)))
 sequence_located r item is t x opens = one_located (type_error r.kind) t
 
-tuple_located : (r : GatherRule) (children : List Child) → AllByRecursion Locates children → (t : Tree) (x : Tree-F Tree) → out-Tree t ≡ x → IsOutcomeOf t (tuple_at r children t x)
+tuple_located : (r : GatherRule) (children : List Child) → AllByRecursion Locates children → (t : Tree) (x : Tree-F Tree) → out-Tree t ≡ x → IsOutcomeOf t (tuple_in r children t (items_of x))
 tuple_located r children are t (Tree-F.Array ts) opens =
     array_located r t ts (placed r children (length ts) 0 ts) opens (tuple_parts t ts opens r children are (length ts) 0 ts (λ j k e. ap (slice_get ts) (omega arith)))
 tuple_located r children are t x opens = one_located (type_error r.kind) t
 
-dict_located : (r : GatherRule) (key value : Child) → Locates key → Locates value → (t : Tree) (x : Tree-F Tree) → out-Tree t ≡ x → IsOutcomeOf t (dict_at r key value t x)
+dict_located : (r : GatherRule) (key value : Child) → Locates key → Locates value → (t : Tree) (x : Tree-F Tree) → out-Tree t ≡ x → IsOutcomeOf t (dict_in r key value t (members_of x))
 dict_located r key value keys values t (Tree-F.Object ms) opens =
     object_located r t (map (pair key value) ms) (pairs_located t ms opens key value keys values ms (recursion_from_All (Contains ms) ms (All-contains_itself ms)))
 dict_located r key value keys values t x opens = one_located (type_error r.kind) t
@@ -88,7 +88,7 @@ collection_located : (r : GatherRule) (children : List Child) → AllByRecursion
 unfolding collection
 collection_located r = by_kind r.kind r
 
-nullable_located : (inner : Child) → Locates inner → (t : Tree) (x : Tree-F Tree) → IsOutcomeOf t (nullable_at inner t x)
+nullable_located : (inner : Child) → Locates inner → (t : Tree) (x : Tree-F Tree) → IsOutcomeOf t (nullable_in inner t (is_null x))
 nullable_located inner is t Tree-F.Null = tt
 nullable_located inner is t x = is t
 
