@@ -5,8 +5,6 @@ mod key;
 mod laws;
 mod making;
 mod seen;
-#[cfg(test)]
-mod tests;
 mod token;
 
 pub use laws::{keys_tell_values, places_tell_what_is_kept};
