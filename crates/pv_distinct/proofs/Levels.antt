@@ -14,7 +14,6 @@ use Rattle.pv_tree.specs.declared.AtomKind.TheVariants.{Uuid, Url, Date, Time, D
 use Rattle.pv_equality.specs.Equality.{same_number}
 use Rattle.pv_equality.proofs.Numbers.{numbers_equiv}
 use Rattle.pv_equality.proofs.Shapes.{Shape, Part, shape, same_own, lone, pair, named, atom_number}
-use Rattle.pv_distinct.specs.declared.token.Token.{Token}
 use Rattle.pv_distinct.specs.declared.token.Token.TheVariants as token
 use Rattle.pv_distinct.specs.Tokens.{token_kind, token_number, token_first, token_second, atom_mark}
 use Rattle.pv_distinct.specs.Keys.{KeyTokens, key, key_at, joined, set_key, item_key, entry_key, field_key, start_at}

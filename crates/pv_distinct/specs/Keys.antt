@@ -1,6 +1,6 @@
 -- The key of a value: the tokens by which it is found.
 -- Two values are the same where their keys compare equal.
-use Rattle.std.specs.Prelude.{ℕ, pos, if◌then◌else◌, Bool, List, [], ◌∷◌, ◌++◌, map, fold}
+use Rattle.std.specs.Prelude.{ℕ, pos, if◌then◌else◌, List, [], ◌∷◌, ◌++◌, map, fold}
 use Rattle.std.specs.declared.cmp.Ordering.{Ordering}
 use Rattle.std.specs.Cmp.Lexicographic.{slice_cmp}
 use Rattle.std.specs.BTreeSet.{insert_key}

@@ -1,5 +1,5 @@
-use Rattle.std.proofs.Common.{◌++◌, rules}
-use Rattle.pv_distinct.proofs.Appending.{more, leaf_written, written}
+use Rattle.std.proofs.Common.{rules}
+use Rattle.pv_distinct.proofs.Appending.{more}
 use Rattle.pv_distinct.proofs.making.+key.Goals as goal
 
 pub write_items-loop-value-preserved : goal.write_items-loop-value-preserved
