@@ -59,7 +59,7 @@ key_at (Value-F.Root cls k) = token.Root cls ∷ (k ++ token.End ∷ [])
 abbrev pub key : Value → KeyTokens
 key = fold-Value KeyTokens key_at
 
--- the first token of a key
+-- the first token of a key, by the value's level
 abbrev pub start_at : Value-F Value → Token
 start_at Value-F.None = token.None
 start_at (Value-F.Bool b) = token.Int (pos (if b then 1 else 0))
@@ -77,10 +77,11 @@ start_at (Value-F.Dict es) = token.Dict
 start_at (Value-F.Model cls fs set es) = token.Model cls
 start_at (Value-F.Root cls v) = token.Root cls
 
+-- the same of a value
 abbrev pub start : Value → Token
 start v = start_at (out-Value v)
 
--- the keys of the parts of a value that holds some
+-- the keys of the parts of a value, by its level; none of one that holds no others
 abbrev pub parts_at : Value-F Value → KeyTokens
 parts_at (Value-F.Enum cls name v) = key v
 parts_at (Value-F.List vs) = joined (map key vs)
@@ -94,5 +95,6 @@ parts_at (Value-F.Model cls fs set es) =
 parts_at (Value-F.Root cls v) = key v
 parts_at v = []
 
+-- the same of a value
 abbrev pub parts : Value → KeyTokens
 parts v = parts_at (out-Value v)
