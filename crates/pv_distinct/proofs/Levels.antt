@@ -14,28 +14,10 @@ use Rattle.pv_tree.specs.declared.AtomKind.TheVariants.{Uuid, Url, Date, Time, D
 use Rattle.pv_equality.specs.Equality.{same_number}
 use Rattle.pv_equality.proofs.Numbers.{numbers_equiv}
 use Rattle.pv_equality.proofs.Shapes.{Shape, Part, shape, same_own, lone, pair, named, atom_number}
-use Rattle.pv_distinct.specs.declared.token.Token.{Token}
 use Rattle.pv_distinct.specs.declared.token.Token.TheVariants as token
 use Rattle.pv_distinct.specs.Tokens.{token_kind, token_number, token_first, token_second, atom_mark}
-use Rattle.pv_distinct.specs.Keys.{KeyTokens, key, key_at, joined, set_key, item_key, entry_key, field_key}
+use Rattle.pv_distinct.specs.Keys.{KeyTokens, key, key_at, joined, set_key, item_key, entry_key, field_key, start_at}
 use Rattle.pv_distinct.proofs.Cutting.{alike, token_told}
-
-abbrev pub own : Value-F Value → Token
-own Value-F.None = token.None
-own (Value-F.Bool b) = token.Int (pos (if b then 1 else 0))
-own (Value-F.Int n) = token.Int n
-own (Value-F.Lexeme lexeme) = token.Lexeme lexeme
-own (Value-F.Str text) = token.Str text
-own (Value-F.Bytes bytes) = token.Bytes bytes
-own (Value-F.Atom kind text) = token.Atom kind text
-own (Value-F.Enum cls name v) = token.Enum cls name
-own (Value-F.List vs) = token.List
-own (Value-F.Tuple vs) = token.Tuple
-own (Value-F.Set vs) = token.Set
-own (Value-F.Frozen vs) = token.Set
-own (Value-F.Dict es) = token.Dict
-own (Value-F.Model cls fs set es) = token.Model cls
-own (Value-F.Root cls v) = token.Root cls
 
 abbrev pub part_key : Part Value → KeyTokens
 part_key p = joined (map key p.1) ++ token.Name p.0 ∷ []
@@ -67,7 +49,7 @@ one_inside k = λ i. sym (append-nil k) i ++ token.End ∷ []
 abbrev keyed : Value-F Value → Value-F KeyTokens
 keyed = map-Value Value KeyTokens key
 
-level : (x : Value-F Value) → key_at (keyed x) ≡ own x ∷ rest_key (shape x)
+level : (x : Value-F Value) → key_at (keyed x) ≡ start_at x ∷ rest_key (shape x)
 level Value-F.None = refl
 level (Value-F.Bool b) = refl
 level (Value-F.Int n) = refl
@@ -86,7 +68,7 @@ level (Value-F.Model cls fs set es) = λ i. token.Model cls ∷ (
     ∙ (λ j. (parts_key (map named fs) ++ sym (append-nil (parts_key (map named es))) j) ++ token.End ∷ [])) i
 level (Value-F.Root cls v) = λ i. token.Root cls ∷ one_inside (key v) i
 
-pub key_level : (x : Value-F Value) → key (roll-Value x) ≡ own x ∷ rest_key (shape x)
+pub key_level : (x : Value-F Value) → key (roll-Value x) ≡ start_at x ∷ rest_key (shape x)
 key_level x = fold-roll-Value KeyTokens key_at x ∙ level x
 
 -- the own tokens of two levels are alike where the shapes have the same own part
@@ -163,16 +145,16 @@ abbrev is_kind : ℕ → ℕ → Bool
 is_kind m n = is_eq (nat_cmp m n)
 
 own_cases : (x y : Value-F Value)
-    → (is_kind (token_kind (own x)) (token_kind (own y)) && (same_number (token_number (own x)) (token_number (own y)) && (bytes_eq (token_first (own x)) (token_first (own y)) && bytes_eq (token_second (own x)) (token_second (own y)))))
+    → (is_kind (token_kind (start_at x)) (token_kind (start_at y)) && (same_number (token_number (start_at x)) (token_number (start_at y)) && (bytes_eq (token_first (start_at x)) (token_first (start_at y)) && bytes_eq (token_second (start_at x)) (token_second (start_at y)))))
     ≡ same_own (shape x) (shape y)
 own_cases Value-F.None Value-F.None = bare_told
-own_cases (Value-F.Bool b) (Value-F.Bool c) = number_told (token_number (own (Value-F.Bool b))) (token_number (own (Value-F.Bool c)))
-own_cases (Value-F.Bool b) (Value-F.Int n) = number_told (token_number (own (Value-F.Bool b))) (int_number n)
-own_cases (Value-F.Bool b) (Value-F.Lexeme l) = number_told (token_number (own (Value-F.Bool b))) (number l)
-own_cases (Value-F.Int n) (Value-F.Bool c) = number_told (int_number n) (token_number (own (Value-F.Bool c)))
+own_cases (Value-F.Bool b) (Value-F.Bool c) = number_told (token_number (start_at (Value-F.Bool b))) (token_number (start_at (Value-F.Bool c)))
+own_cases (Value-F.Bool b) (Value-F.Int n) = number_told (token_number (start_at (Value-F.Bool b))) (int_number n)
+own_cases (Value-F.Bool b) (Value-F.Lexeme l) = number_told (token_number (start_at (Value-F.Bool b))) (number l)
+own_cases (Value-F.Int n) (Value-F.Bool c) = number_told (int_number n) (token_number (start_at (Value-F.Bool c)))
 own_cases (Value-F.Int n) (Value-F.Int m) = number_told (int_number n) (int_number m)
 own_cases (Value-F.Int n) (Value-F.Lexeme l) = number_told (int_number n) (number l)
-own_cases (Value-F.Lexeme l) (Value-F.Bool c) = number_told (number l) (token_number (own (Value-F.Bool c)))
+own_cases (Value-F.Lexeme l) (Value-F.Bool c) = number_told (number l) (token_number (start_at (Value-F.Bool c)))
 own_cases (Value-F.Lexeme l) (Value-F.Int n) = number_told (number l) (int_number n)
 own_cases (Value-F.Lexeme l) (Value-F.Lexeme k) = number_told (number l) (number k)
 own_cases (Value-F.Str t) (Value-F.Str u) = text_told t u
@@ -190,10 +172,10 @@ own_cases (Value-F.Model c fs s es) (Value-F.Model d gs t ks) = text_told c d
 own_cases (Value-F.Root c v) (Value-F.Root d w) = text_told c d
 own_cases x y = refl
 
-pub own_told : (x y : Value-F Value) → alike (own x) (own y) ≡ same_own (shape x) (shape y)
-own_told x y = token_told (own x) (own y) ∙ own_cases x y
+pub own_told : (x y : Value-F Value) → alike (start_at x) (start_at y) ≡ same_own (shape x) (shape y)
+own_told x y = token_told (start_at x) (start_at y) ∙ own_cases x y
 
-pub own_kind : (x : Value-F Value) → token_kind (own x) ≡ (shape x).kind
+pub own_kind : (x : Value-F Value) → token_kind (start_at x) ≡ (shape x).kind
 own_kind Value-F.None = refl
 own_kind (Value-F.Bool b) = refl
 own_kind (Value-F.Int n) = refl

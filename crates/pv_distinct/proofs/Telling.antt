@@ -19,10 +19,10 @@ use Rattle.pv_equality.proofs.Levels.{same_by_shapes, by_shapes}
 use Rattle.pv_distinct.specs.declared.token.Token.TheVariants as token
 use Rattle.pv_distinct.specs.Tokens.{token_kind}
 use Rattle.pv_distinct.specs.TokenOrder.{keys_total}
-use Rattle.pv_distinct.specs.Keys.{KeyTokens, key, key_cmp, joined, ordered}
+use Rattle.pv_distinct.specs.Keys.{KeyTokens, key, key_cmp, joined, ordered, start_at}
 use Rattle.pv_distinct.proofs.Ordering.{equal_told, all_ordered, ascends, has, same_lists, like_among, like_back}
 use Rattle.pv_distinct.proofs.Cutting.{alike, alike_keys, token_told, keys_compared, kinds_alike, joins, all_join, Begins, Ends, cut_list}
-use Rattle.pv_distinct.proofs.Levels.{none_told, own, own_told, own_kind, key_level, part_key, parts_key, inside_key, rest_key}
+use Rattle.pv_distinct.proofs.Levels.{none_told, own_told, own_kind, key_level, part_key, parts_key, inside_key, rest_key}
 
 -- what is to be shown of each value
 abbrev Forth : Value → Type 0
@@ -44,7 +44,7 @@ starts_part k = nat_lt k 13
 abbrev starts_parts : ℕ → Bool
 starts_parts k = k == 13
 
-own_starts : (x : Value-F Value) → starts_value (token_kind (own x)) ≡ true
+own_starts : (x : Value-F Value) → starts_value (token_kind (start_at x)) ≡ true
 own_starts Value-F.None = refl
 own_starts (Value-F.Bool b) = refl
 own_starts (Value-F.Int n) = refl
@@ -299,23 +299,23 @@ rests_back false false s t e a f q r h = inside_back s t a q r h
 abbrev is_leaf : Value-F Value → Bool
 is_leaf x = nat_lt (shape x).kind 5
 
-leaves_alike : (x y : Value-F Value) → alike (own x) (own y) ≡ true → is_leaf x ≡ is_leaf y
-leaves_alike x y h = λ i. nat_lt ((sym (own_kind x) ∙ kinds_alike (own x) (own y) h ∙ own_kind y) i) 5
+leaves_alike : (x y : Value-F Value) → alike (start_at x) (start_at y) ≡ true → is_leaf x ≡ is_leaf y
+leaves_alike x y h = λ i. nat_lt ((sym (own_kind x) ∙ kinds_alike (start_at x) (start_at y) h ∙ own_kind y) i) 5
 
 module _ (x : Value-F Value) (a : AllWithin Tells (shape x)) (y : Value-F Value) where
   level_forth : same (roll-Value x) (roll-Value y) ≡ true → alike_keys (key (roll-Value x)) (key (roll-Value y)) ≡ true
   level_forth h =
       let g : same_shape same (shape x) (shape y) ≡ true = sym (same_by_shapes x y) ∙ h in
-      let o : alike (own x) (own y) ≡ true = own_told x y ∙ first (same_own (shape x) (shape y)) (same_inside same (shape x) (shape y)) g in
+      let o : alike (start_at x) (start_at y) ≡ true = own_told x y ∙ first (same_own (shape x) (shape y)) (same_inside same (shape x) (shape y)) g in
       (λ i. alike_keys (key_level x i) (key_level y i))
       ∙ both o (rests_forth (is_leaf x) (is_leaf y) (shape x) (shape y) (leaves_alike x y o) a (second (same_own (shape x) (shape y)) (same_inside same (shape x) (shape y)) g))
 
   level_back : (r s : KeyTokens) → alike_keys (key (roll-Value x) ++ r) (key (roll-Value y) ++ s) ≡ true → (same (roll-Value x) (roll-Value y) ≡ true) × (alike_keys r s ≡ true)
   level_back r s h =
-      let g : alike_keys (own x ∷ (rest_key (shape x) ++ r)) (own y ∷ (rest_key (shape y) ++ s)) ≡ true = sym (λ i. alike_keys (key_level x i ++ r) (key_level y i ++ s)) ∙ h in
-      let o : alike (own x) (own y) ≡ true = first (alike (own x) (own y)) (alike_keys (rest_key (shape x) ++ r) (rest_key (shape y) ++ s)) g in
+      let g : alike_keys (start_at x ∷ (rest_key (shape x) ++ r)) (start_at y ∷ (rest_key (shape y) ++ s)) ≡ true = sym (λ i. alike_keys (key_level x i ++ r) (key_level y i ++ s)) ∙ h in
+      let o : alike (start_at x) (start_at y) ≡ true = first (alike (start_at x) (start_at y)) (alike_keys (rest_key (shape x) ++ r) (rest_key (shape y) ++ s)) g in
       let k = rests_back (is_leaf x) (is_leaf y) (shape x) (shape y) (leaves_alike x y o) a (leaves_inside x y) r s
-      (second (alike (own x) (own y)) (alike_keys (rest_key (shape x) ++ r) (rest_key (shape y) ++ s)) g) in
+      (second (alike (start_at x) (start_at y)) (alike_keys (rest_key (shape x) ++ r) (rest_key (shape y) ++ s)) g) in
       (same_by_shapes x y ∙ both (sym (own_told x y) ∙ o) k.0, k.1)
 
 rolled : (P : Value → Type 0) → ((x : Value-F Value) → P (roll-Value x)) → (v : Value) → P v

@@ -1,5 +1,5 @@
 -- The order of tokens: first by kind, then by number, then by two texts.
-use Rattle.std.specs.Prelude.{ℕ, ℤ, pos, List, [], ◌∷◌}
+use Rattle.std.specs.Prelude.{ℕ, ℤ, pos, Bool, true, false, List, [], ◌∷◌}
 use Rattle.std.specs.declared.cmp.Ordering.{Ordering}
 use Rattle.std.specs.Prelude.{Option, None, Some}
 use Rattle.std.specs.Ordering.{nat_cmp, on, then_cmp}
@@ -28,6 +28,17 @@ token_kind (token.Root c) = 11
 token_kind (token.Name n) = 12
 token_kind token.Open = 13
 token_kind token.End = 14
+
+-- whether parts follow, and a mark behind them
+abbrev pub opens : Token → Bool
+opens (token.Enum c n) = true
+opens token.List = true
+opens token.Tuple = true
+opens token.Set = true
+opens token.Dict = true
+opens (token.Model c) = true
+opens (token.Root c) = true
+opens t = false
 
 abbrev pub token_lexeme : Token → Option (List ℕ)
 token_lexeme (token.Lexeme l) = Some l

@@ -11,6 +11,12 @@ use pv_tree::Value;
 use std::alloc::Global;
 use std::collections::BTreeSet;
 
+fn flag_value(flag: bool) -> i128
+    ensures { result ≡ pos (if flag then 1 else 0) }
+{
+    if flag { 1 } else { 0 }
+}
+
 /// Appends the keys of a set's items, which came in the order of the keys.
 fn append_set(out: &mut Key, keys: BTreeSet<Key>) -> Result<(), Memory>
     ensures { OnOk result (out.new ≡ out.old ++ Token.Open ∷ (spec.joined keys.keys ++ Token.End ∷ [])) }
@@ -19,14 +25,7 @@ fn append_set(out: &mut Key, keys: BTreeSet<Key>) -> Result<(), Memory>
     for key in keys {
         out.append(key)?;
     }
-    out.push(Token::End)?;
-    Ok(())
-}
-
-fn flag_value(flag: bool) -> i128
-    ensures { result ≡ pos (if flag then 1 else 0) }
-{
-    if flag { 1 } else { 0 }
+    out.push(Token::End)
 }
 
 #[cycle(key)]
@@ -39,6 +38,17 @@ fn write_items(alloc: Global, values: &[Value], out: &mut Key) -> Result<(), Mem
     Ok(())
 }
 
+/// The key of a value and, behind it, a name.
+#[cycle(key)]
+fn item_key(alloc: Global, value: &Value, name: &Text) -> Result<Key, Memory>
+    ensures { IfOk result (λ k. k ≡ key value.now ++ Token.Name name.now ∷ []) }
+{
+    let mut item = Key::new(alloc, 2)?;
+    write_key(alloc, value, &mut item)?;
+    item.push(Token::Name(name.share(alloc)?))?;
+    Ok(item)
+}
+
 #[cycle(key)]
 fn write_set(alloc: Global, values: &[Value], out: &mut Key) -> Result<(), Memory>
     ensures { OnOk result (out.new ≡ out.old ++ spec.set_key (map spec.item_key (map key values.now))) }
@@ -46,13 +56,9 @@ fn write_set(alloc: Global, values: &[Value], out: &mut Key) -> Result<(), Memor
     let name = Text::from_str(alloc, "")?;
     let mut keys = BTreeSet::new(alloc);
     for value in values {
-        let mut item = Key::new(alloc, 2)?;
-        write_key(alloc, value, &mut item)?;
-        item.push(Token::Name(name.share(alloc)?))?;
-        keys.insert(item)?;
+        keys.insert(item_key(alloc, value, &name)?)?;
     }
-    append_set(out, keys)?;
-    Ok(())
+    append_set(out, keys)
 }
 
 #[cycle(key)]
@@ -62,14 +68,13 @@ fn write_entries(alloc: Global, entries: &[(Value, Value)], out: &mut Key) -> Re
     let name = Text::from_str(alloc, "")?;
     let mut keys = BTreeSet::new(alloc);
     for (first, second) in entries {
-        let mut item = Key::new(alloc, 2)?;
+        let mut item = Key::new(alloc, 3)?;
         write_key(alloc, first, &mut item)?;
         write_key(alloc, second, &mut item)?;
         item.push(Token::Name(name.share(alloc)?))?;
         keys.insert(item)?;
     }
-    append_set(out, keys)?;
-    Ok(())
+    append_set(out, keys)
 }
 
 #[cycle(key)]
@@ -78,13 +83,55 @@ fn write_fields(alloc: Global, fields: &[(Text, Value)], out: &mut Key) -> Resul
 {
     let mut keys = BTreeSet::new(alloc);
     for (name, value) in fields {
-        let mut item = Key::new(alloc, 2)?;
-        write_key(alloc, value, &mut item)?;
-        item.push(Token::Name(name.share(alloc)?))?;
-        keys.insert(item)?;
+        keys.insert(item_key(alloc, value, name)?)?;
     }
-    append_set(out, keys)?;
-    Ok(())
+    append_set(out, keys)
+}
+
+/// The first token of a value's key.
+fn start(alloc: Global, value: &Value) -> Result<Token, Memory>
+    ensures { IfOk result (λ t. t ≡ spec.start value.now) }
+{
+    Ok(match value {
+        Value::None => Token::None,
+        Value::Bool(flag) => Token::Int(flag_value(*flag)),
+        Value::Int(n) => Token::Int(*n),
+        Value::Lexeme(lexeme) => Token::Lexeme(lexeme.share(alloc)?),
+        Value::Str(text) => Token::Str(text.share(alloc)?),
+        Value::Bytes(bytes) => Token::Bytes(Bytes::from_slice(alloc, bytes.as_slice())?),
+        Value::Atom { kind, text } => Token::Atom(*kind, text.share(alloc)?),
+        Value::Enum { cls, name, .. } => Token::Enum(cls.share(alloc)?, name.share(alloc)?),
+        Value::List(_) => Token::List,
+        Value::Tuple(_) => Token::Tuple,
+        Value::Set(_) | Value::Frozen(_) => Token::Set,
+        Value::Dict(_) => Token::Dict,
+        Value::Model { cls, .. } => Token::Model(cls.share(alloc)?),
+        Value::Root { cls, .. } => Token::Root(cls.share(alloc)?),
+    })
+}
+
+/// Appends the keys of the values that a value holds.
+#[cycle(key)]
+fn write_parts(alloc: Global, value: &Value, out: &mut Key) -> Result<(), Memory>
+    ensures { OnOk result (out.new ≡ out.old ++ spec.parts value.now) }
+{
+    match value {
+        Value::None
+        | Value::Bool(_)
+        | Value::Int(_)
+        | Value::Lexeme(_)
+        | Value::Str(_)
+        | Value::Bytes(_)
+        | Value::Atom { .. } => Ok(()),
+        Value::Enum { value, .. } | Value::Root { value, .. } => write_key(alloc, value.get(), out),
+        Value::List(values) | Value::Tuple(values) => write_items(alloc, values.as_slice(), out),
+        Value::Set(values) | Value::Frozen(values) => write_set(alloc, values.as_slice(), out),
+        Value::Dict(entries) => write_entries(alloc, entries.as_slice(), out),
+        Value::Model { fields, extra, .. } => {
+            write_fields(alloc, fields.as_slice(), out)?;
+            write_fields(alloc, extra.as_slice(), out)
+        }
+    }
 }
 
 /// Appends the key of a value.
@@ -92,64 +139,14 @@ fn write_fields(alloc: Global, fields: &[(Text, Value)], out: &mut Key) -> Resul
 fn write_key(alloc: Global, value: &Value, out: &mut Key) -> Result<(), Memory>
     ensures { OnOk result (out.new ≡ out.old ++ key value.now) }
 {
-    match value {
-        Value::None => out.push(Token::None)?,
-        Value::Bool(flag) => out.push(Token::Int(flag_value(*flag)))?,
-        Value::Int(n) => out.push(Token::Int(*n))?,
-        Value::Lexeme(lexeme) => out.push(Token::Lexeme(lexeme.share(alloc)?))?,
-        Value::Str(text) => out.push(Token::Str(text.share(alloc)?))?,
-        Value::Bytes(bytes) => {
-            out.push(Token::Bytes(Bytes::from_slice(alloc, bytes.as_slice())?))?
-        }
-        Value::Atom { kind, text } => out.push(Token::Atom(*kind, text.share(alloc)?))?,
-        Value::Enum { cls, name, value } => {
-            out.push(Token::Enum(cls.share(alloc)?, name.share(alloc)?))?;
-            write_key(alloc, value.get(), out)?;
-            out.push(Token::End)?;
-        }
-        Value::List(values) => {
-            out.push(Token::List)?;
-            write_items(alloc, values.as_slice(), out)?;
-            out.push(Token::End)?;
-        }
-        Value::Tuple(values) => {
-            out.push(Token::Tuple)?;
-            write_items(alloc, values.as_slice(), out)?;
-            out.push(Token::End)?;
-        }
-        Value::Set(values) => {
-            out.push(Token::Set)?;
-            write_set(alloc, values.as_slice(), out)?;
-            out.push(Token::End)?;
-        }
-        Value::Frozen(values) => {
-            out.push(Token::Set)?;
-            write_set(alloc, values.as_slice(), out)?;
-            out.push(Token::End)?;
-        }
-        Value::Dict(entries) => {
-            out.push(Token::Dict)?;
-            write_entries(alloc, entries.as_slice(), out)?;
-            out.push(Token::End)?;
-        }
-        Value::Model {
-            cls,
-            fields,
-            extra,
-            ..
-        } => {
-            out.push(Token::Model(cls.share(alloc)?))?;
-            write_fields(alloc, fields.as_slice(), out)?;
-            write_fields(alloc, extra.as_slice(), out)?;
-            out.push(Token::End)?;
-        }
-        Value::Root { cls, value } => {
-            out.push(Token::Root(cls.share(alloc)?))?;
-            write_key(alloc, value.get(), out)?;
-            out.push(Token::End)?;
-        }
+    let start = start(alloc, value)?;
+    let opens = start.opens();
+    out.push(start)?;
+    if !opens {
+        return Ok(());
     }
-    Ok(())
+    write_parts(alloc, value, out)?;
+    out.push(Token::End)
 }
 
 /// Nearly all values are one token.

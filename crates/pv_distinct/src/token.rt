@@ -59,6 +59,30 @@ impl Token {
         }
     }
 
+    /// Whether the tokens of parts follow, and then `End`.
+    pub fn opens(&self) -> bool
+        ensures { result ≡ spec.opens self.now }
+    {
+        match self {
+            Token::Enum(_, _)
+            | Token::List
+            | Token::Tuple
+            | Token::Set
+            | Token::Dict
+            | Token::Model(_)
+            | Token::Root(_) => true,
+            Token::None
+            | Token::Int(_)
+            | Token::Lexeme(_)
+            | Token::Str(_)
+            | Token::Bytes(_)
+            | Token::Atom(_, _)
+            | Token::Name(_)
+            | Token::Open
+            | Token::End => false,
+        }
+    }
+
     fn lexeme(&self) -> Option<&Lexeme>
         ensures { option_copied result ≡ spec.token_lexeme self.now }
     {
