@@ -1,5 +1,5 @@
 -- Tables grow at their ends.
-use Rattle.std.proofs.Common.{◌≡◌, ℕ, suc, ◌+◌, ◌-◌, ◌<◌, false, List, [], ◌∷◌, ◌++◌, map, length, take, get_or, slice_set, Option, Some, None, refl, ap, sym, ◌∙◌, arith}
+use Rattle.std.proofs.Common.{◌≡◌, ℕ, suc, ◌+◌, ◌-◌, ◌<◌, false, List, [], ◌∷◌, ◌++◌, map, length, take, get_or, slice_set, Option, Some, None, Result, Ok, Err, OnOk, refl, ap, sym, ◌∙◌, arith}
 use Rattle.std.specs.List.{flat_map}
 use Rattle.std.proofs.lemmas.List.{take_more, flat_map_more, length-append, append-nil, append_assoc, set-append_right}
 use Rattle.std.proofs.lemmas.Grind.{flat_map-append}
@@ -19,6 +19,11 @@ use Rattle.pv_plan.specs.declared.record.Record.{Record}
 use Rattle.pv_plan.specs.Records.{any, places, op_at, slots_at, own_strict}
 use Rattle.pv_plan.proofs.Absent.{any_record}
 use Rattle.pv_plan.specs.Layout.{numbers, record_at, table_from, table_of}
+
+-- what follows of the last of several steps
+pub on_ok : {T E P Q : Type 0} (r : Result T E) → (P → Q) → OnOk r P → OnOk r Q
+on_ok (Ok x) f p = f p
+on_ok (Err e) f p = p
 
 next_part : (all : List Node) (i : ℕ) (x : Node) → i < length all → x ≡ get_or all i x
     → flat_map preorder (take i all) ++ preorder x ≡ flat_map preorder (take (i + 1) all)
@@ -70,17 +75,17 @@ module _ (last : ℕ) where
       ∙ ap (λ k. old ++ slice_set (r ∷ table_from last (length old + 1) ns) k s) here
 
   -- a node and all that is inside it
-  pub laid : (old mid table new : List Record) (at : ℕ) (r : Record) (n : Node) (cs : List ℕ) → at ≡ length old
-      → mid ≡ old ++ r ∷ [] → table ≡ mid ++ table_from last (length mid) (flat_map preorder (parts n)) → cs ≡ numbers last (length mid) (slots_at (body_of n))
+  pub laid : (old mid table new : List Record) (at : ℕ) (r : Record) (n : Node) (none cs : List ℕ) → at ≡ length old
+      → mid ≡ old ++ r ∷ [] → table ≡ mid ++ table_from last (length mid) (flat_map preorder (parts n)) → none ≡ [] → cs ≡ none ++ numbers last (length mid) (slots_at (body_of n))
       → new ≡ slice_set table at (record { op = op_at (body_of n); children = cs; strict = own_strict n; validate_default = false })
       → new ≡ old ++ table_from last (length old) (preorder n)
   unfolding table_from
-  laid old mid table new at r n cs place e f num g =
+  laid old mid table new at r n none cs place e f empty num g =
       let size : length mid ≡ length old + 1 = ap length e ∙ length-append old (r ∷ []) in
       let with : List ℕ → Record = λ ks. record { op = op_at (body_of n); children = ks; strict = own_strict n; validate_default = false } in
       let inner = flat_map preorder (parts n) in
       filled old mid table new r (with cs) inner e f (g ∙ ap (λ k. slice_set table k (with cs)) place)
-      ∙ ap (λ ks. old ++ with ks ∷ table_from last (length old + 1) inner) (num ∙ ap (λ k. numbers last k (slots_at (body_of n))) size)
+      ∙ ap (λ ks. old ++ with ks ∷ table_from last (length old + 1) inner) (num ∙ ap (λ ks. ks ++ numbers last (length mid) (slots_at (body_of n))) empty ∙ ap (λ k. numbers last k (slots_at (body_of n))) size)
       ∙ ap (λ ns. old ++ table_from last (length old) ns) (sym (opens n))
 
   numbers_push : (at : ℕ) (ns : List Node) (n : Node) → numbers last at (map Some (ns ++ n ∷ [])) ≡ numbers last at (map Some ns) ++ (at + nodes_count ns) ∷ []
@@ -90,20 +95,23 @@ module _ (last : ℕ) where
       let same : at + node_count m + nodes_count ns ≡ at + length (preorder m ++ flat_map preorder ns) = omega (arith, size) in
       ap (λ ks. at ∷ ks) (numbers_push (at + node_count m) ns n ∙ ap (λ k. numbers last (at + node_count m) (map Some ns) ++ k ∷ []) same)
 
-  pub numbers_more : (at size : ℕ) (places new : List ℕ) (all : List Node) (i : ℕ) (x : Node) → i < length all → x ≡ get_or all i x
-      → size ≡ at + nodes_count (take i all) → places ≡ numbers last at (map Some (take i all)) → new ≡ places ++ size ∷ [] → new ≡ numbers last at (map Some (take (i + 1) all))
-  numbers_more at size places new all i x l here e f g =
-      g ∙ ap (λ ps. ps ++ size ∷ []) f ∙ ap (λ k. numbers last at (map Some (take i all)) ++ k ∷ []) e ∙ sym (numbers_push at (take i all) x)
-      ∙ ap (λ y. numbers last at (map Some (take i all ++ y ∷ []))) here ∙ ap (λ ns. numbers last at (map Some ns)) (sym (take_more all i x l))
+  pub numbers_more : (at size : ℕ) (start old new : List ℕ) (all : List Node) (i : ℕ) (x : Node) → i < length all → x ≡ get_or all i x
+      → size ≡ at + nodes_count (take i all) → old ≡ start ++ numbers last at (map Some (take i all)) → new ≡ old ++ size ∷ []
+      → new ≡ start ++ numbers last at (map Some (take (i + 1) all))
+  numbers_more at size start old new all i x l here e f g =
+      let before = numbers last at (map Some (take i all)) in
+      g ∙ ap (λ ps. ps ++ size ∷ []) f ∙ append_assoc start before (size ∷ [])
+      ∙ ap (λ k. start ++ (before ++ k ∷ [])) e ∙ ap (λ ps. start ++ ps) (sym (numbers_push at (take i all) x))
+      ∙ ap (λ y. start ++ numbers last at (map Some (take i all ++ y ∷ []))) here ∙ ap (λ ns. start ++ numbers last at (map Some ns)) (sym (take_more all i x l))
 
-  two_numbers : (at next first second : ℕ) (keys values : Option Node) → next ≡ at + nodes_count (optional keys)
-      → first ∷ [] ≡ numbers last at (keys ∷ []) → second ∷ [] ≡ numbers last next (values ∷ []) → first ∷ second ∷ [] ≡ numbers last at (keys ∷ values ∷ [])
-  two_numbers at next first second None values e f g =
+  two_numbers : (at next : ℕ) (keys values : Option Node) → next ≡ at + nodes_count (optional keys)
+      → numbers last at (keys ∷ []) ++ numbers last next (values ∷ []) ≡ numbers last at (keys ∷ values ∷ [])
+  two_numbers at next None values e =
       let same : at + nodes_count (optional None) ≡ at = omega arith in
-      ap (λ ks. ks ++ second ∷ []) f ∙ ap (λ ks. last ∷ ks) (g ∙ ap (λ k. numbers last k (values ∷ [])) (e ∙ same))
-  two_numbers at next first second (Some n) values e f g =
+      ap (λ k. last ∷ numbers last k (values ∷ [])) (e ∙ same)
+  two_numbers at next (Some n) values e =
       let size : nodes_count (optional (Some n)) ≡ node_count n = ap length (append-nil (preorder n)) in
-      ap (λ ks. ks ++ second ∷ []) f ∙ ap (λ ks. at ∷ ks) (g ∙ ap (λ k. numbers last k (values ∷ [])) (e ∙ ap (λ k. at + k) size))
+      ap (λ k. at ∷ numbers last k (values ∷ [])) (e ∙ ap (λ k. at + k) size)
 
   -- the child schemas of a dict
   pub dict_laid : (old table new : List Record) (b : Body) (r : GatherRule) (keys values : Option Node) → b ≡ body.Dict r keys values
@@ -114,13 +122,16 @@ module _ (last : ℕ) where
       ∙ ap (λ ns. old ++ table_from last (length old) ns) (sym (flat_map-append preorder (optional keys) (optional values)))
       ∙ ap (λ x. old ++ table_from last (length old) (flat_map preorder (parts_at x))) (sym (ap out-Body is ∙ dict_opens r keys values))
 
-  pub dict_numbered : (old table : List Record) (first second : ℕ) (all : List ℕ) (b : Body) (r : GatherRule) (keys values : Option Node) → b ≡ body.Dict r keys values
+  pub dict_numbered : (old table : List Record) (start mid new : List ℕ) (b : Body) (r : GatherRule) (keys values : Option Node) → b ≡ body.Dict r keys values
       → table ≡ old ++ table_from last (length old) (flat_map preorder (optional keys))
-      → first ∷ [] ≡ numbers last (length old) (keys ∷ []) → second ∷ [] ≡ numbers last (length table) (values ∷ []) → all ≡ first ∷ second ∷ []
-      → all ≡ numbers last (length old) (slots_at (out-Body b))
-  dict_numbered old table first second all b r keys values is e f g h =
-      h ∙ two_numbers (length old) (length table) first second keys values (length_laid old table (flat_map preorder (optional keys)) e) f g
-      ∙ ap (λ x. numbers last (length old) (slots_at x)) (sym (ap out-Body is ∙ dict_opens r keys values))
+      → mid ≡ start ++ numbers last (length old) (keys ∷ []) → new ≡ mid ++ numbers last (length table) (values ∷ [])
+      → new ≡ start ++ numbers last (length old) (slots_at (out-Body b))
+  dict_numbered old table start mid new b r keys values is e f g =
+      let first = numbers last (length old) (keys ∷ []) in
+      let second = numbers last (length table) (values ∷ []) in
+      g ∙ ap (λ ks. ks ++ second) f ∙ append_assoc start first second
+      ∙ ap (λ ks. start ++ ks) (two_numbers (length old) (length table) keys values (length_laid old table (flat_map preorder (optional keys)) e))
+      ∙ ap (λ x. start ++ numbers last (length old) (slots_at x)) (sym (ap out-Body is ∙ dict_opens r keys values))
 
 length-table_of : (root : Node) → length (table_of root) ≡ node_count root + 1
 unfolding table_of

@@ -1,6 +1,6 @@
 //! From a schema to its plan.
 
-ghost use Rattle.std.specs.Prelude.{◌≡◌, ◌≤◌, [], false, IfOk};
+ghost use Rattle.std.specs.Prelude.{◌≡◌, ◌≤◌, [], ◌∷◌, ◌++◌, false, IfOk, OnOk};
 ghost use Rattle.pv_rules.specs.Settings.{plain};
 ghost use Rattle.pv_node.specs.Preorder.{node_count};
 ghost use Rattle.pv_plan.specs.Layout.{table_of};
@@ -33,6 +33,15 @@ fn any(alloc: Global) -> Result<Record, Memory>
     }
 }
 
+/// Puts the record that stands for absent schemas at the end.
+fn push_any(alloc: Global, table: &mut Items<Record>) -> Result<(), Memory>
+    ensures { OnOk result (table.new ≡ table.old ++ record { op = Op.Scalar (ScalarRule.Any, plain); children = []; strict = false; validate_default = false } ∷ []) }
+{
+    let record = any(alloc)?;
+    table.push(record)?;
+    Ok(())
+}
+
 fn table(alloc: Global, root: &Node) -> Result<Items<Record>, BuildFault>
     requires { node_count root.now ≤ MAX_NODES }
     ensures table { IfOk result (λ table. table ≡ table_of root.now) }
@@ -41,7 +50,7 @@ fn table(alloc: Global, root: &Node) -> Result<Items<Record>, BuildFault>
     let last = count_nodes(root)? as u32;
     let mut table = Items::new(alloc);
     lay(alloc, &mut table, last, root)?;
-    table.push(any(alloc)?)?;
+    push_any(alloc, &mut table)?;
     Ok(table)
 }
 

@@ -1,6 +1,6 @@
 //! The records of nodes, laid one after another.
 
-ghost use Rattle.std.specs.Prelude.{◌≡◌, ◌<◌, false, [], ◌∷◌, ◌++◌, length, map, slice_set, codes, IfOk, OnOk};
+ghost use Rattle.std.specs.Prelude.{◌≡◌, ◌<◌, false, [], ◌∷◌, ◌++◌, length, map, slice_set, codes, IfOk, OnOk, None};
 ghost use Rattle.std.specs.List.{flat_map};
 ghost use Rattle.pv_tree.specs.declared.Step.TheVariants.{Name, Index};
 ghost use Rattle.pv_node.specs.declared.Body.{out-Body};
@@ -73,21 +73,15 @@ fn settle(
     Ok(())
 }
 
-fn one(alloc: Global, number: u32) -> Result<Items<u32>, Memory>
-    ensures { IfOk result (λ all. all ≡ number ∷ []) }
+/// Adds a number at the end.
+fn add(all: &mut Items<u32>, number: u32) -> Result<(), BuildFault>
+    ensures number { OnOk result (all.new ≡ all.old ++ number ∷ []) }
+    ensures pattern { Finds result None }
 {
-    let mut all = Items::new(alloc);
-    all.push(number)?;
-    Ok(all)
-}
-
-fn two(alloc: Global, first: u32, second: u32) -> Result<Items<u32>, Memory>
-    ensures { IfOk result (λ all. all ≡ first ∷ second ∷ []) }
-{
-    let mut all = Items::new(alloc);
-    all.push(first)?;
-    all.push(second)?;
-    Ok(all)
+    match all.push(number) {
+        Ok(()) => Ok(()),
+        Err(_) => Err(BuildFault::Memory),
+    }
 }
 
 /// Lays a node and all inside it, and gives its number. `last` is the number of what stands for
@@ -107,12 +101,13 @@ pub(crate) fn lay(
     let at = table.len();
     let own = number(at)?;
     reserve(alloc, table)?;
-    let children = lay_children(alloc, table, last, &node.body)?;
+    let mut children = Items::new(alloc);
+    lay_children(alloc, table, last, &node.body, &mut children)?;
     settle(alloc, table, at, node, children)?;
     Ok(own)
 }
 
-/// Lays the child schemas of a node, and gives their numbers.
+/// Lays the child schemas of a node, and adds their numbers to `all`.
 #[cycle(lay)]
 #[tactic(auto, unfolding(crate::specs::Layout::table_from))]
 fn lay_children(
@@ -120,38 +115,33 @@ fn lay_children(
     table: &mut Items<Record>,
     last: u32,
     body: &Body,
-) -> Result<Items<u32>, BuildFault>
+    all: &mut Items<u32>,
+) -> Result<(), BuildFault>
     ensures table { OnOk result (table.new ≡ table.old ++ table_from last (length table.old) (flat_map preorder (parts_at (out-Body body.now)))) }
-    ensures numbers { IfOk result (λ all. all ≡ numbers last (length table.old) (slots_at (out-Body body.now))) }
+    ensures numbers { OnOk result (all.new ≡ all.old ++ numbers last (length table.old) (slots_at (out-Body body.now))) }
     ensures pattern { Finds result (in_children spec.bad_pattern (out-Body body.now)) }
 {
     match body {
-        Body::Scalar(_) => Ok(Items::new(alloc)),
+        Body::Scalar(_) => Ok(()),
         Body::Sequence { items_schema, .. } => {
-            let items = lay_slot(alloc, table, last, "items_schema", items_schema)?;
-            Ok(one(alloc, items)?)
+            lay_slot(alloc, table, last, "items_schema", items_schema, all)
         }
         Body::Tuple { items_schema, .. } => {
-            let all = lay_positions(alloc, table, last, items_schema.as_slice())?;
-            Ok(all)
+            lay_positions(alloc, table, last, items_schema.as_slice(), all)
         }
         Body::Dict {
             keys_schema,
             values_schema,
             ..
         } => {
-            let keys = lay_slot(alloc, table, last, "keys_schema", keys_schema)?;
-            let values = lay_slot(alloc, table, last, "values_schema", values_schema)?;
-            Ok(two(alloc, keys, values)?)
+            lay_slot(alloc, table, last, "keys_schema", keys_schema, all)?;
+            lay_slot(alloc, table, last, "values_schema", values_schema, all)
         }
-        Body::Nullable { schema } => {
-            let inner = lay_inner(alloc, table, last, "schema", schema.get())?;
-            Ok(one(alloc, inner)?)
-        }
+        Body::Nullable { schema } => { lay_inner(alloc, table, last, "schema", schema.get(), all) }
     }
 }
 
-/// Lays the child schema under a key, where there is one.
+/// Lays the child schema under a key, where there is one, and adds its number to `all`.
 #[cycle(lay)]
 #[tactic(auto, unfolding(crate::specs::Layout::table_from))]
 fn lay_slot(
@@ -160,21 +150,19 @@ fn lay_slot(
     last: u32,
     key: &str,
     slot: &Option<Boxed<Node>>,
-) -> Result<u32, BuildFault>
+    all: &mut Items<u32>,
+) -> Result<(), BuildFault>
     ensures table { OnOk result (table.new ≡ table.old ++ table_from last (length table.old) (flat_map preorder (optional slot.now))) }
-    ensures number { IfOk result (λ n. n ∷ [] ≡ numbers last (length table.old) (slot.now ∷ [])) }
+    ensures numbers { OnOk result (all.new ≡ all.old ++ numbers last (length table.old) (slot.now ∷ [])) }
     ensures pattern { Finds result (spec.in_slot spec.bad_pattern (Name key.now ∷ []) slot.now) }
 {
     match slot {
-        None => Ok(last),
-        Some(node) => {
-            let number = lay_inner(alloc, table, last, key, node.get())?;
-            Ok(number)
-        }
+        None => add(all, last),
+        Some(node) => lay_inner(alloc, table, last, key, node.get(), all),
     }
 }
 
-/// Lays the child schema under a key.
+/// Lays the child schema under a key, and adds its number to `all`.
 #[cycle(lay)]
 #[tactic(auto, unfolding(crate::specs::Layout::table_from))]
 fn lay_inner(
@@ -183,18 +171,19 @@ fn lay_inner(
     last: u32,
     key: &str,
     node: &Node,
-) -> Result<u32, BuildFault>
+    all: &mut Items<u32>,
+) -> Result<(), BuildFault>
     ensures table { OnOk result (table.new ≡ table.old ++ table_from last (length table.old) (preorder node.now)) }
-    ensures number { IfOk result (λ n. n ≡ length table.old) }
+    ensures number { OnOk result (all.new ≡ all.old ++ length table.old ∷ []) }
     ensures pattern { Finds result (spec.behind (Name key.now ∷ []) (spec.bad_pattern node.now)) }
 {
     match lay(alloc, table, last, node) {
-        Ok(number) => Ok(number),
+        Ok(number) => add(all, number),
         Err(fault) => Err(under_key(alloc, fault, key)),
     }
 }
 
-/// Lays the child schema of a position of a tuple.
+/// Lays the child schema of a position of a tuple, and adds its number to `all`.
 #[cycle(lay)]
 #[tactic(auto, unfolding(crate::specs::Layout::table_from))]
 fn lay_position(
@@ -203,18 +192,19 @@ fn lay_position(
     last: u32,
     position: u64,
     node: &Node,
-) -> Result<u32, BuildFault>
+    all: &mut Items<u32>,
+) -> Result<(), BuildFault>
     ensures table { OnOk result (table.new ≡ table.old ++ table_from last (length table.old) (preorder node.now)) }
-    ensures number { IfOk result (λ n. n ≡ length table.old) }
+    ensures number { OnOk result (all.new ≡ all.old ++ length table.old ∷ []) }
     ensures pattern { Finds result (spec.behind (Name (codes "items_schema") ∷ Index position ∷ []) (spec.bad_pattern node.now)) }
 {
     match lay(alloc, table, last, node) {
-        Ok(number) => Ok(number),
+        Ok(number) => add(all, number),
         Err(fault) => Err(under_position(alloc, fault, position)),
     }
 }
 
-/// Lays the child schemas of the positions of a tuple.
+/// Lays the child schemas of the positions of a tuple, and adds their numbers to `all`.
 #[cycle(lay)]
 #[tactic(auto, unfolding(crate::specs::Layout::table_from))]
 fn lay_positions(
@@ -222,15 +212,14 @@ fn lay_positions(
     table: &mut Items<Record>,
     last: u32,
     nodes: &[Node],
-) -> Result<Items<u32>, BuildFault>
+    all: &mut Items<u32>,
+) -> Result<(), BuildFault>
     ensures table { OnOk result (table.new ≡ table.old ++ table_from last (length table.old) (flat_map preorder nodes.now)) }
-    ensures numbers { IfOk result (λ all. all ≡ numbers last (length table.old) (map Some nodes.now)) }
+    ensures numbers { OnOk result (all.new ≡ all.old ++ numbers last (length table.old) (map Some nodes.now)) }
     ensures pattern { Finds result (spec.in_positions spec.bad_pattern 0 nodes.now) }
 {
-    let mut all = Items::new(alloc);
     for (position, node) in nodes.iter().enumerate() {
-        let number = lay_position(alloc, table, last, position as u64, node)?;
-        all.push(number)?;
+        lay_position(alloc, table, last, position as u64, node, all)?;
     }
-    Ok(all)
+    Ok(())
 }
