@@ -1,9 +1,9 @@
 -- What reading leaves is the end of what it was given.
-use Rattle.std.proofs.Common.{◌≡◌, ℕ, ◌+◌, ◌-◌, ◌<◌, ◌≤◌, Bool, true, false, cond, List, [], ◌∷◌, ◌++◌, length, length-append, length-drop, take, drop, Ok, Err, refl, sym, ap, ◌∙◌, arith}
+use Rattle.std.proofs.Common.{◌≡◌, ℕ, ◌+◌, ◌-◌, ◌≤◌, Bool, true, false, cond, List, [], ◌∷◌, ◌++◌, length, length-append, drop, Ok, Err, refl, sym, ap, ◌∙◌, arith}
 use Rattle.std.specs.Prelude.{Result, ◌==◌}
 use Rattle.pv_json_grammar.specs.Reading.{after}
 use Rattle.pv_json_grammar.specs.Strings.{string}
-use Rattle.pv_json_grammar.specs.SpelledStrings.{SpellsString, spelled}
+use Rattle.pv_json_grammar.specs.SpelledStrings.{spelled}
 use Rattle.pv_json_grammar.proofs.StringSound.{string_sound}
 
 word_by : (t : Bool) (ws bs rest : List ℕ) → (after ws bs ≡ Ok rest → (length ws ≤ length bs) × (rest ≡ drop (length ws) bs))

@@ -1,11 +1,11 @@
 -- Integers of few digits.
-use Rattle.std.proofs.Common.{◌≡◌, ℕ, zero, suc, ◌+◌, ◌-◌, ◌*◌, ◌^◌, ◌<◌, ◌≤◌, Bool, true, false, cond, List, [], ◌∷◌, ◌++◌, length, drop, get_or, ℤ, pos, negsuc, refl, sym, ap, ◌∙◌, subst, append-nil, arith, add-one, Some, None}
-use Rattle.std.specs.Prelude.{not, ◌||◌, ◌&&◌, ◌==◌, if◌then◌else◌, neg_ℤ}
-use Rattle.std.specs.List.{list_all, before_first, after_first}
+use Rattle.std.proofs.Common.{◌≡◌, ℕ, zero, suc, ◌+◌, ◌*◌, ◌^◌, ◌<◌, ◌≤◌, Bool, true, false, List, [], ◌∷◌, drop, ℤ, pos, refl, sym, ap, ◌∙◌, subst, append-nil, arith, add-one, Some}
+use Rattle.std.specs.Prelude.{not, ◌||◌, ◌==◌, if◌then◌else◌, neg_ℤ}
+use Rattle.std.specs.List.{list_all}
 use Rattle.std.proofs.Math.Nat.{pow-suc, pow-le-pow_right}
 use Rattle.std.proofs.lemmas.Bool.{and_parts, lt-ltb, eqb-true}
 use Rattle.std.proofs.lemmas.Bool.Decides.{eqb_tells}
-use Rattle.pv_number.specs.ExactNumber.{number, natural, natural_after, digit, is_integer, is_point, is_letter, without_sign, signed}
+use Rattle.pv_number.specs.ExactNumber.{number, natural, is_integer, is_point, is_letter, without_sign, signed}
 use Rattle.pv_number.specs.Scanning.{is_digit, begins}
 use Rattle.pv_number.specs.WrittenIntegers.{integer, is_i128}
 use Rattle.pv_number.proofs.WrittenIntegers.{all_before, none_after, each}

@@ -1,5 +1,5 @@
 -- What merging is of the whole list of members.
-use Rattle.std.specs.Prelude.{ℕ, Bool, not, if◌then◌else◌, List, [], ◌∷◌, filter, bytes_eq, Option, None, Some}
+use Rattle.std.specs.Prelude.{ℕ, not, if◌then◌else◌, List, [], ◌∷◌, filter, bytes_eq, Option, None, Some}
 
 -- each name once, in the order of the first places
 abbrev pub first_names : List (List ℕ) → List (List ℕ)

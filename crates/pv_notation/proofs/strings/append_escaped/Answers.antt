@@ -1,4 +1,4 @@
-use Rattle.std.proofs.Common.{◌≡◌, ◌+◌, ◌++◌, ◌∙◌, length, take, sym, ap, subst, arith}
+use Rattle.std.proofs.Common.{◌+◌, ◌++◌, ◌∙◌, take, sym, ap, subst}
 use Rattle.std.specs.List.{flat_map}
 use Rattle.pv_notation.specs.Strings.{escaped}
 use Rattle.pv_notation.proofs.Escapes.{IsRun, run_none, run_more, run_ends}

@@ -1,4 +1,4 @@
-use Rattle.std.proofs.Common.{◌≡◌, ◌<◌, ◌∙◌, List, ℕ, length, get_or, slice_set, refl, sym, ap, subst, rules}
+use Rattle.std.proofs.Common.{◌≡◌, ◌<◌, ◌∙◌, length, get_or, slice_set, sym, ap, subst, rules}
 use Rattle.std.specs.Prelude.{Some, None}
 use Rattle.pv_tree.specs.Merging.{place_of, IsIndex}
 use Rattle.pv_tree.proofs.Merges.{put_new, put_old, place_below, index_kept, index_inserted}
