@@ -1,6 +1,6 @@
 -- The outcome of a whole collection.
-use Rattle.std.proofs.Common.{◌≡◌, ℕ, zero, suc, ◌+◌, ◌<◌, Bool, true, false, List, [], ◌∷◌, ◌++◌, length, map, refl, sym, ap, ◌∙◌, subst, arith}
-use Rattle.std.specs.Prelude.{codes, not, ◌&&◌, if◌then◌else◌, Option, None, Some, IsTrue}
+use Rattle.std.proofs.Common.{◌≡◌, ℕ, ◌+◌, ◌<◌, Bool, true, false, cond, List, [], ◌∷◌, ◌++◌, length, refl, sym, ap, ◌∙◌, arith}
+use Rattle.std.specs.Prelude.{codes, not, ◌&&◌, if◌then◌else◌, Option, None, Some}
 use Rattle.std.specs.List.{flat_map}
 use Rattle.pv_tree.specs.declared.Step.{Step}
 use Rattle.pv_tree.specs.declared.Step.TheVariants.{Name, Index}
@@ -10,20 +10,20 @@ use Rattle.pv_tree.specs.declared.Tree.TheVariants as tree
 use Rattle.pv_tree.specs.declared.Value.{Value}
 use Rattle.pv_tree.specs.declared.Value.TheVariants as value
 use Rattle.pv_rules.specs.declared.Collection.{Collection}
-use Rattle.pv_rules.specs.declared.Collection.TheVariants as collection
 use Rattle.pv_rules.specs.declared.GatherRule.{GatherRule}
 use Rattle.pv_fault.specs.declared.Grade.{Grade}
+use Rattle.pv_fault.specs.declared.Kind.{Kind}
 use Rattle.pv_fault.specs.declared.Kind.TheVariants as kind
 use Rattle.pv_fault.specs.declared.LineError.{LineError}
 use Rattle.pv_fault.specs.declared.Outcome.{Outcome}
 use Rattle.pv_fault.specs.declared.Outcome.TheVariants.{Good, Bad}
 use Rattle.pv_fault.specs.Grades.{least_of}
 use Rattle.pv_fault.specs.Counts.{sum_of}
-use Rattle.pv_fault.specs.Under.{under, all_under}
+use Rattle.pv_fault.specs.Under.{all_under}
 use Rattle.pv_equality.specs.Hashable.{hashable}
 use Rattle.pv_equality.specs.Merging.{merged_entries}
 use Rattle.pv_collect.specs.Gathering.{Part, Pair, error_here, own_grade, needs_hash, errors_of, item_errors, items_errors, key_errors, pair_errors, outcomes_in, values_of, grades_of, counts_of, both_in, entry_of, entries_of, kept, made_of, missing_of, wanted, length_fault, measured, unless_errors, gather_items, gather_pairs}
-use Rattle.pv_collect.specs.State.{Tallied, Gathered, items_at, items_in, closed, valid_item, valid_key, valid_value, valid_entry, one_or_none, valid_items, valid_entries, gathered_items, gathered_pairs, finished_items, finished_pairs, finished_as, finished}
+use Rattle.pv_collect.specs.State.{Gathered, items_at, items_in, fault_errors, or_else, with_errors, items_end, pairs_end, is_object_at, is_object, closed, outcome_of, valid_item, valid_key, valid_value, valid_entry, one_or_none, valid_items, valid_entries, gathered_items, gathered_pairs}
 
 pub some_errors : (es : List LineError) (o : Outcome) → 0 < length es → unless_errors es o ≡ Bad es
 some_errors [] o h = absurd (omega arith)
@@ -96,44 +96,52 @@ all_entries (p ∷ ps) h =
     ap (λ es. es ++ valid_entries ps) (entry_valid p.name p.key p.value no_key)
     ∙ ap (λ es. entry_of p.key p.value ++ es) (all_entries ps (empty_second (pair_errors p) (flat_map pair_errors ps) h))
 
-items_gathered : (r : GatherRule) (t : Tree) (ps : List Part) → finished_items (gathered_items r ps) t ≡ gather_items r (items_in t) t ps
-unfolding finished_items gathered_items gather_items
+-- the errors of the lengths come only where there are no others
+or_measured : (es : List LineError) (f : Option Kind) (t : Tree) (o : Outcome) → unless_errors (or_else es (fault_errors f t)) o ≡ unless_errors es (measured f t o)
+or_measured [] None t o = refl
+or_measured [] (Some k) t o = refl
+or_measured (e ∷ es) f t o = refl
+
+items_gathered : (r : GatherRule) (t : Tree) (ps : List Part) → outcome_of (with_errors (gathered_items r ps) (items_end (gathered_items r ps) t)) false ≡ gather_items r (items_in t) t ps
+unfolding gathered_items gather_items
 items_gathered r t ps =
     let es : List LineError = items_errors r.kind 0 ps in
     let missing : List LineError = missing_of (wanted r (items_in t)) (items_in t) t in
     let grade : Grade = least_of (own_grade r.kind) (grades_of (outcomes_in ps)) in
     let count : Option ℕ = sum_of (counts_of (outcomes_in ps)) in
-    same_unless (es ++ missing) _ _
+    let vs : List Value = kept r.kind (valid_items r.kind ps) in
+    or_measured (es ++ missing) (length_fault r (items_in t) (length vs)) t (Good (made_of r.kind vs) grade count)
+    ∙ same_unless (es ++ missing) _ _
     (λ h. ap (λ vs. measured (length_fault r (items_in t) (length (kept r.kind vs))) t (Good (made_of r.kind (kept r.kind vs)) grade count)) (all_valid r.kind 0 ps (empty_first es missing h)))
 
-pairs_gathered : (r : GatherRule) (t : Tree) (ps : List Pair) → finished_pairs (gathered_pairs r ps) t ≡ gather_pairs r t ps
-unfolding finished_pairs gathered_pairs gather_pairs
+pairs_gathered : (r : GatherRule) (t : Tree) (ps : List Pair) → outcome_of (with_errors (gathered_pairs r ps) (pairs_end (gathered_pairs r ps) t)) true ≡ gather_pairs r t ps
+unfolding gathered_pairs gather_pairs
 pairs_gathered r t ps =
     let es : List LineError = flat_map pair_errors ps in
     let grade : Grade = least_of (own_grade r.kind) (grades_of (both_in ps)) in
     let count : Option ℕ = sum_of (counts_of (both_in ps)) in
-    same_unless es _ _
+    let fs : List (Value × Value) = merged_entries (valid_entries ps) in
+    or_measured es (length_fault r (length fs) (length fs)) t (Good (value.Dict fs) grade count)
+    ∙ same_unless es _ _
     (λ h. ap (λ fs. measured (length_fault r (length (merged_entries fs)) (length (merged_entries fs))) t (Good (value.Dict (merged_entries fs)) grade count)) (all_entries ps h))
 
-pub items_finished : (g : Gathered) (o : Outcome) (t : Tree) → o ≡ finished g t → (ts : List Tree) (r : GatherRule) (ps : List Part) → out-Tree t ≡ Tree-F.Array ts → g ≡ gathered_items r ps
-    → o ≡ gather_items r (length ts) t ps
-unfolding finished
-items_finished g o t made ts r ps array held =
-    made ∙ ap (λ x. finished_as g t x) array ∙ ap (λ x. finished_items x t) held ∙ items_gathered r t ps ∙ ap (λ x. gather_items r (items_at x) t ps) array
-
-pub pairs_finished : (g : Gathered) (o : Outcome) (t : Tree) → o ≡ finished g t → (ms : List (List ℕ × Tree)) (r : GatherRule) (ps : List Pair) → out-Tree t ≡ Tree-F.Object ms → g ≡ gathered_pairs r ps
-    → o ≡ gather_pairs r t ps
-unfolding finished
-pairs_finished g o t made ms r ps object held = made ∙ ap (λ x. finished_as g t x) object ∙ ap (λ x. finished_pairs x t) held ∙ pairs_gathered r t ps
-
-pub pairs_closed : (g : Gathered) (r : GatherRule) (es fs : List (Value × Value)) (tally : Tallied) (n : ℕ) (o : Outcome) (t : Tree)
-    → g.rule ≡ r → g.entries ≡ fs → g.tally ≡ tally → es ≡ fs → n ≡ length es → o ≡ closed r t tally (value.Dict es) n n → o ≡ finished_pairs g t
-unfolding finished_pairs
-pairs_closed g r es fs tally n o t rule entries tallied same_list count made =
-    let now : es ≡ g.entries = same_list ∙ sym entries in
-    let size : n ≡ length g.entries = count ∙ ap length now in
+pub items_finished : (g h : Gathered) (b : Bool) (o : Outcome) (t : Tree) → h ≡ closed g t → b ≡ is_object t → o ≡ outcome_of h b
+    → (ts : List Tree) (r : GatherRule) (ps : List Part) → out-Tree t ≡ Tree-F.Array ts → g ≡ gathered_items r ps → o ≡ gather_items r (length ts) t ps
+unfolding closed
+items_finished g h b o t close object made ts r ps array held =
+    let no : is_object t ≡ false = ap is_object_at array in
     made
-    ∙ ap (λ x. closed x t tally (value.Dict es) n n) (sym rule)
-    ∙ ap (λ x. closed g.rule t x (value.Dict es) n n) (sym tallied)
-    ∙ ap (λ x. closed g.rule t g.tally (value.Dict x) n n) now
-    ∙ ap (λ x. closed g.rule t g.tally (value.Dict g.entries) x x) size
+    ∙ ap (λ x. outcome_of x b) (close ∙ ap (λ c. with_errors g (cond c (pairs_end g t) (items_end g t))) no ∙ ap (λ x. with_errors x (items_end x t)) held)
+    ∙ ap (outcome_of (with_errors (gathered_items r ps) (items_end (gathered_items r ps) t))) (object ∙ no)
+    ∙ items_gathered r t ps
+    ∙ ap (λ x. gather_items r (items_at x) t ps) array
+
+pub pairs_finished : (g h : Gathered) (b : Bool) (o : Outcome) (t : Tree) → h ≡ closed g t → b ≡ is_object t → o ≡ outcome_of h b
+    → (ms : List (List ℕ × Tree)) (r : GatherRule) (ps : List Pair) → out-Tree t ≡ Tree-F.Object ms → g ≡ gathered_pairs r ps → o ≡ gather_pairs r t ps
+unfolding closed
+pairs_finished g h b o t close object made ms r ps members held =
+    let yes : is_object t ≡ true = ap is_object_at members in
+    made
+    ∙ ap (λ x. outcome_of x b) (close ∙ ap (λ c. with_errors g (cond c (pairs_end g t) (items_end g t))) yes ∙ ap (λ x. with_errors x (pairs_end x t)) held)
+    ∙ ap (outcome_of (with_errors (gathered_pairs r ps) (pairs_end (gathered_pairs r ps) t))) (object ∙ yes)
+    ∙ pairs_gathered r t ps

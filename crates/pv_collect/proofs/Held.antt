@@ -1,6 +1,7 @@
 -- What is held after one more part.
-use Rattle.std.proofs.Common.{◌≡◌, ℕ, ◌+◌, List, [], ◌∷◌, ◌++◌, length, map, refl, sym, ap, ◌∙◌, append-nil, append_assoc, arith, length-append}
+use Rattle.std.proofs.Common.{◌≡◌, ℕ, ◌+◌, List, [], ◌∷◌, ◌++◌, length, refl, sym, ap, ◌∙◌, append-nil, append_assoc, arith, length-append}
 use Rattle.std.specs.Prelude.{codes, Option, None, Some}
+use Rattle.std.specs.Option.{option_zip}
 use Rattle.std.specs.List.{flat_map}
 use Rattle.std.proofs.lemmas.List.{map-append}
 use Rattle.std.proofs.lemmas.Grind.{flat_map-append}
@@ -14,8 +15,8 @@ use Rattle.pv_fault.specs.declared.Grade.{Grade}
 use Rattle.pv_fault.specs.declared.LineError.{LineError}
 use Rattle.pv_fault.specs.declared.Outcome.{Outcome}
 use Rattle.pv_fault.specs.declared.Outcome.TheVariants.{Good, Bad}
-use Rattle.pv_fault.specs.Grades.{least, least_of}
-use Rattle.pv_fault.specs.Counts.{sum_of, sum_of_two}
+use Rattle.pv_fault.specs.Grades.{least_of}
+use Rattle.pv_fault.specs.Counts.{sum_of}
 use Rattle.pv_fault.specs.Under.{under, all_under}
 use Rattle.pv_fault.proofs.Sums.{least_more, sum_of_more}
 use Rattle.pv_equality.specs.Merging.{put_item, put_items, first_of_each, put_entry, put_entries, merged_entries}
@@ -148,7 +149,7 @@ entries_more (q ∷ ps) p =
     let first : List (Value × Value) = valid_entry (valid_key q.key) (valid_value q.value) in
     ap (λ es. first ++ es) (entries_more ps p) ∙ sym (append_assoc first (valid_entries ps) _)
 
-put_one_entry : (es : List (Value × Value)) (k v : Option Value) → put_valid_entry (merged_entries es) k v ≡ merged_entries (es ++ valid_entry k v)
+put_one_entry : (es : List (Value × Value)) (k v : Option Value) → put_valid_entry (merged_entries es) (option_zip k v) ≡ merged_entries (es ++ valid_entry k v)
 unfolding merged_entries
 put_one_entry es (Some k) (Some v) = sym (put_entries_more [] es k v)
 put_one_entry es (Some k) None = ap (put_entries []) (sym (append-nil es))

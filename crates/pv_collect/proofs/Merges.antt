@@ -1,8 +1,10 @@
 -- A value, or an entry, put among others at the place that an index found for it.
-use Rattle.std.proofs.Common.{◌≡◌, ℕ, zero, suc, ◌+◌, ◌-◌, ◌<◌, ◌≤◌, Bool, true, false, cond, ◌||◌, List, [], ◌∷◌, ◌++◌, length, get_or, map, refl, sym, ap, ◌∙◌, subst, arith}
+use Rattle.std.proofs.Common.{◌≡◌, ℕ, suc, ◌+◌, ◌-◌, ◌<◌, ◌≤◌, Bool, true, false, cond, ◌||◌, List, [], ◌∷◌, ◌++◌, length, get_or, take, length-append, refl, sym, ap, ◌∙◌, subst, arith}
 use Rattle.std.specs.Prelude.{Option, None, Some}
 use Rattle.std.specs.List.{position_from, list_any}
 use Rattle.std.proofs.Math.ListN.{set}
+use Rattle.std.proofs.Math.Seq.{get_or-append_seam, take-append_seam}
+use Rattle.std.proofs.lemmas.List.{same_from_push}
 use Rattle.pv_tree.specs.declared.Value.{Value}
 use Rattle.pv_equality.specs.Equality.{same}
 use Rattle.pv_equality.specs.Merging.{put_item, put_entry}
@@ -114,26 +116,52 @@ keys_put (e ∷ es) k v = keys_by (same e.0 k) (list_any (λ q. same q k) (keys_
 pub seen_entries : (s : Seen) (es fs : List (Value × Value)) (k v : Value) → fs ≡ put_entry es k v → IsSeen s (put_item (keys_of es) k) → IsSeen s (keys_of fs)
 seen_entries s es fs k v e h = subst (IsSeen s) (sym (ap keys_of e ∙ keys_put es k v)) h
 
+-- the last of some values is the one that was added
+pub last_is : {X : Type 0} → (xs ys : List X) (x y : X) (n : ℕ) → n ≡ length xs → ys ≡ xs ++ x ∷ [] → y ≡ get_or ys n y → y ≡ x
+last_is xs ys x y n p q e = e ∙ ap (λ us. get_or us n y) q ∙ ap (λ k. get_or (xs ++ x ∷ []) k y) p ∙ get_or-append_seam xs x [] y
+
 -- what the index found, and what was made of it
-pub value_found : (vs whole : List Value) (v : Value) (n : ℕ) (p : Place) → vs ≡ whole → p ≡ place_of vs v → p ≡ place.Old n → vs ≡ put_item whole v
-value_found vs whole v n p same_list told is = sym (item_old vs v n (sym told ∙ is)) ∙ ap (λ ws. put_item ws v) same_list
+pub value_found : (vs whole us : List Value) (v x : Value) (n : ℕ) (p : Place) → us ≡ vs → vs ≡ whole → x ≡ v → p ≡ place_of vs x → p ≡ place.Old n → us ≡ put_item whole v
+value_found vs whole us v x n p cut same_list last told is =
+    cut ∙ sym (item_old vs x n (sym told ∙ is)) ∙ ap (λ y. put_item vs y) last ∙ ap (λ ws. put_item ws v) same_list
 
-pub value_added : (vs whole ws : List Value) (v : Value) (p : Place) → vs ≡ whole → p ≡ place_of vs v → p ≡ place.New → ws ≡ vs ++ v ∷ [] → ws ≡ put_item whole v
-value_added vs whole ws v p same_list told is made = made ∙ sym (item_new vs v (sym told ∙ is)) ∙ ap (λ us. put_item us v) same_list
+pub value_added : (vs whole ws : List Value) (v x : Value) (p : Place) → vs ≡ whole → x ≡ v → p ≡ place_of vs x → p ≡ place.New → ws ≡ vs ++ v ∷ [] → ws ≡ put_item whole v
+value_added vs whole ws v x p same_list last told is made =
+    made ∙ ap (λ y. vs ++ y ∷ []) (sym last) ∙ sym (item_new vs x (sym told ∙ is)) ∙ ap (λ y. put_item vs y) last ∙ ap (λ us. put_item us v) same_list
 
-pub seen_found : (s : Seen) (vs : List Value) (v : Value) (n : ℕ) (p : Place) → p ≡ place_of vs v → p ≡ place.Old n → IsSeen s (put_item vs v) → IsSeen s vs
-seen_found s vs v n p told is h = subst (IsSeen s) (item_old vs v n (sym told ∙ is)) h
+pub seen_found : (s : Seen) (vs us : List Value) (x : Value) (n : ℕ) (p : Place) → us ≡ vs → p ≡ place_of vs x → p ≡ place.Old n → IsSeen s (put_item vs x) → IsSeen s us
+seen_found s vs us x n p cut told is h = subst (IsSeen s) (item_old vs x n (sym told ∙ is) ∙ sym cut) h
 
-pub seen_added : (s : Seen) (vs ws : List Value) (v : Value) (p : Place) → p ≡ place_of vs v → p ≡ place.New → ws ≡ vs ++ v ∷ [] → IsSeen s (put_item vs v) → IsSeen s ws
-seen_added s vs ws v p told is made h = subst (IsSeen s) (item_new vs v (sym told ∙ is) ∙ sym made) h
+pub seen_added : (s : Seen) (vs ws : List Value) (v x : Value) (p : Place) → x ≡ v → p ≡ place_of vs x → p ≡ place.New → ws ≡ vs ++ v ∷ [] → IsSeen s (put_item vs x) → IsSeen s ws
+seen_added s vs ws v x p last told is made h = subst (IsSeen s) (item_new vs x (sym told ∙ is) ∙ ap (λ y. vs ++ y ∷ []) last ∙ sym made) h
 
-pub entry_changed : (n : ℕ) (es whole : List (Value × Value)) (k v : Value) (x : Value × Value) (p : Place) → es ≡ whole → p ≡ place_of (keys_of es) k → p ≡ place.Old n
-    → x ≡ get_or es n x → set es n (x.0, v) ≡ put_entry whole k v
-entry_changed n es whole k v x p same_list told is at =
-    ap (λ y. set es n (y.0, v)) at ∙ sym (entry_old n es k v x (sym told ∙ is)) ∙ ap (λ fs. put_entry fs k v) same_list
+-- what is left when the last of some is cut off
+pub cut_last : {X : Type 0} → (xs us ws : List X) (x : X) (n : ℕ) → n ≡ length xs → us ≡ xs ++ x ∷ [] → ws ≡ take n us → ws ≡ xs
+cut_last xs us ws x n p q e = e ∙ ap (take n) q ∙ ap (λ k. take k (xs ++ x ∷ [])) p ∙ take-append_seam xs (x ∷ [])
 
-pub entry_added : (es whole fs : List (Value × Value)) (k v : Value) (p : Place) → es ≡ whole → p ≡ place_of (keys_of es) k → p ≡ place.New → fs ≡ es ++ (k, v) ∷ [] → fs ≡ put_entry whole k v
-entry_added es whole fs k v p same_list told is made = made ∙ sym (entry_new es k v (sym told ∙ is)) ∙ ap (λ gs. put_entry gs k v) same_list
+pub moved : (es before after : List (Value × Value)) (e x : Value × Value) (n : ℕ) → before ++ x ∷ [] ≡ es ++ e ∷ []
+    → ((d : Value × Value) → after ≡ set before n ((get_or before n d).0, x.1)) → after ≡ set es n ((get_or es n e).0, e.1)
+moved es before after e x n same_list h =
+    let parts = same_from_push before es x e same_list in
+    h e ∙ ap (λ ys. set ys n ((get_or ys n e).0, x.1)) parts.0 ∙ ap (λ y. set es n ((get_or es n e).0, y.1)) parts.1
+
+pub moved_entry : (n : ℕ) (es whole fs us : List (Value × Value)) (e : Value × Value) (k : Value) (p : Place) → es ≡ whole → k ≡ e.0 → p ≡ place_of (keys_of es) k → p ≡ place.Old n
+    → us ≡ es ++ e ∷ [] → ((xs : List (Value × Value)) (x : Value × Value) → us ≡ xs ++ x ∷ [] → fs ≡ set xs n ((get_or xs n x).0, x.1)) → fs ≡ put_entry whole e.0 e.1
+moved_entry n es whole fs us e k p same_list key told is pushed made =
+    made es e pushed ∙ sym (entry_old n es e.0 e.1 e (ap (place_of (keys_of es)) (sym key) ∙ sym told ∙ is)) ∙ ap (λ gs. put_entry gs e.0 e.1) same_list
+
+pub pushed_entry : (es whole fs : List (Value × Value)) (e : Value × Value) (k : Value) (p : Place) → es ≡ whole → k ≡ e.0 → p ≡ place_of (keys_of es) k → p ≡ place.New → fs ≡ es ++ e ∷ []
+    → fs ≡ put_entry whole e.0 e.1
+pushed_entry es whole fs e k p same_list key told is made =
+    made ∙ sym (entry_new es e.0 e.1 (ap (place_of (keys_of es)) (sym key) ∙ sym told ∙ is)) ∙ ap (λ gs. put_entry gs e.0 e.1) same_list
+
+pub within : (n : ℕ) (es us : List (Value × Value)) (x : Value × Value) (k : Value) (p : Place) → us ≡ es ++ x ∷ [] → p ≡ place_of (keys_of es) k → p ≡ place.Old n → n + 1 < length us
+within n es us x k p pushed told is =
+    let below : n < length es = entry_below n es k k (sym told ∙ is) in
+    omega (arith, ap length pushed, length-append es (x ∷ []), below)
+
+pub seen_put : (s : Seen) (es fs : List (Value × Value)) (e : Value × Value) (k : Value) → k ≡ e.0 → fs ≡ put_entry es e.0 e.1 → IsSeen s (put_item (keys_of es) k) → IsSeen s (keys_of fs)
+seen_put s es fs e k key made h = seen_entries s es fs e.0 e.1 made (subst (λ w. IsSeen s (put_item (keys_of es) w)) key h)
 
 pub is_below : (n : ℕ) (es : List (Value × Value)) (k : Value) (p : Place) → p ≡ place_of (keys_of es) k → p ≡ place.Old n → n < length es
 is_below n es k p told is = entry_below n es k k (sym told ∙ is)

@@ -1,5 +1,5 @@
 -- One more missing position.
-use Rattle.std.proofs.Common.{◌≡◌, ℕ, zero, suc, ◌+◌, List, [], ◌∷◌, ◌++◌, refl, sym, ap, ◌∙◌, append_assoc, add-one, arith}
+use Rattle.std.proofs.Common.{◌≡◌, ℕ, zero, suc, ◌+◌, List, [], ◌∷◌, ◌++◌, sym, ap, ◌∙◌, append_assoc, add-one, arith}
 use Rattle.pv_tree.specs.declared.Step.TheVariants.{Index}
 use Rattle.pv_tree.specs.declared.Tree.{Tree}
 use Rattle.pv_fault.specs.declared.Kind.TheVariants as kind

@@ -1,4 +1,5 @@
 -- What is held of a collection after some of its parts.
+use Rattle.std.specs.Option.{option_zip}
 use Rattle.std.specs.Prelude.{ℕ, ◌+◌, Bool, true, false, not, ◌&&◌, if◌then◌else◌, List, [], ◌∷◌, ◌++◌, length, map, codes, flat_map, Option, None, Some}
 use Rattle.pv_tree.specs.declared.Step.TheVariants.{Name, Index}
 use Rattle.pv_tree.specs.declared.Tree.{Tree}
@@ -10,6 +11,7 @@ use Rattle.pv_rules.specs.declared.Collection.{Collection}
 use Rattle.pv_rules.specs.declared.Collection.TheVariants as collection
 use Rattle.pv_rules.specs.declared.GatherRule.{GatherRule}
 use Rattle.pv_fault.specs.declared.Grade.{Grade}
+use Rattle.pv_fault.specs.declared.Kind.{Kind}
 use Rattle.pv_fault.specs.declared.LineError.{LineError}
 use Rattle.pv_fault.specs.declared.Outcome.{Outcome}
 use Rattle.pv_fault.specs.declared.Outcome.TheVariants.{Good, Bad}
@@ -18,7 +20,7 @@ use Rattle.pv_fault.specs.Counts.{sum_of, sum_of_two}
 use Rattle.pv_fault.specs.Under.{all_under}
 use Rattle.pv_equality.specs.Hashable.{hashable}
 use Rattle.pv_equality.specs.Merging.{put_item, put_entry, merged_entries}
-use Rattle.pv_collect.specs.Gathering.{Part, Pair, own_grade, needs_hash, errors_of, item_errors, items_errors, key_errors, pair_errors, outcomes_in, grades_of, counts_of, both_in, kept, made_of, missing_of, wanted, length_fault, measured, unless_errors}
+use Rattle.pv_collect.specs.Gathering.{Part, Pair, own_grade, needs_hash, errors_of, item_errors, items_errors, key_errors, pair_errors, outcomes_in, grades_of, counts_of, both_in, kept, made_of, missing_of, wanted, length_fault, error_here, unless_errors}
 
 -- errors, grade and count of some parts
 pub record Tallied : Type 0 where
@@ -119,10 +121,10 @@ abbrev pub put_valid : Collection → List Value → Option Value → List Value
 put_valid k vs None = vs
 put_valid k vs (Some v) = put_kept k vs v
 
-abbrev pub put_valid_entry : List (Value × Value) → Option Value → Option Value → List (Value × Value)
-put_valid_entry es (Some k) (Some v) = put_entry es k v
-put_valid_entry es (Some k) None = es
-put_valid_entry es None v = es
+-- the entries of a dict with the one that a member adds, if it adds one
+abbrev pub put_valid_entry : List (Value × Value) → Option (Value × Value) → List (Value × Value)
+put_valid_entry es None = es
+put_valid_entry es (Some e) = put_entry es e.0 e.1
 
 unfoldable pub added_item : Gathered → Tree → Outcome → Gathered
 added_item g t o = record {
@@ -143,32 +145,61 @@ added_pair g name k v = record {
   rule = g.rule;
   items = g.items + 1;
   values = g.values;
-  entries = put_valid_entry g.entries (valid_key k) (valid_value v);
+  entries = put_valid_entry g.entries (option_zip (valid_key k) (valid_value v));
   tally = tallied_pair g.tally name k v;
 }
 
--- The outcome from what is held: all errors, else what is wrong with the lengths, else the value.
-abbrev pub closed : GatherRule → Tree → Tallied → Value → ℕ → ℕ → Outcome
-closed r t tally v items kept = unless_errors tally.errors (measured (length_fault r items kept) t (Good v tally.grade tally.count))
+-- the error at the place itself of what is wrong, if anything is
+abbrev pub fault_errors : Option Kind → Tree → List LineError
+fault_errors None t = []
+fault_errors (Some k) t = error_here k t ∷ []
 
-abbrev pub with_missing : Tallied → List LineError → Tallied
-with_missing t es = record { errors = t.errors ++ es; grade = t.grade; count = t.count }
+-- these errors, or the others where there are none
+abbrev pub or_else : List LineError → List LineError → List LineError
+or_else [] fs = fs
+or_else (e ∷ es) fs = e ∷ es
 
-unfoldable pub finished_items : Gathered → Tree → Outcome
-finished_items g t =
-    closed g.rule t (with_missing g.tally (missing_of (wanted g.rule (items_in t)) (items_in t) t)) (made_of g.rule.kind g.values) (items_in t) (length g.values)
+-- the same with other errors
+abbrev pub with_errors : Gathered → List LineError → Gathered
+with_errors g es = record {
+  rule = g.rule;
+  items = g.items;
+  values = g.values;
+  entries = g.entries;
+  tally = record { errors = es; grade = g.tally.grade; count = g.tally.count };
+}
 
-unfoldable pub finished_pairs : Gathered → Tree → Outcome
-finished_pairs g t = closed g.rule t g.tally (value.Dict g.entries) (length g.entries) (length g.entries)
+-- the errors at the end of an array: with the missing positions,
+-- and where there are none with what is wrong with the lengths
+abbrev pub items_end : Gathered → Tree → List LineError
+items_end g t =
+    let n = items_in t in
+    or_else (g.tally.errors ++ missing_of (wanted g.rule n) n t)
+    (fault_errors (length_fault g.rule n (length g.values)) t)
 
--- by what the tree is: the members of an object are pairs, and the items of an array are parts
-abbrev pub finished_as : Gathered → Tree → Tree-F Tree → Outcome
-finished_as g t Tree-F.Null = finished_items g t
-finished_as g t (Tree-F.Bool b) = finished_items g t
-finished_as g t (Tree-F.Num lexeme) = finished_items g t
-finished_as g t (Tree-F.Str text) = finished_items g t
-finished_as g t (Tree-F.Array ts) = finished_items g t
-finished_as g t (Tree-F.Object ms) = finished_pairs g t
+-- the errors at the end of an object: where there are none, with what is wrong with the lengths
+abbrev pub pairs_end : Gathered → Tree → List LineError
+pairs_end g t =
+    let n = length g.entries in
+    or_else g.tally.errors (fault_errors (length_fault g.rule n n) t)
 
-unfoldable pub finished : Gathered → Tree → Outcome
-finished g t = finished_as g t (out-Tree t)
+-- whether a tree is an object, whose members are pairs; the items of an array are parts
+abbrev pub is_object_at : Tree-F Tree → Bool
+is_object_at (Tree-F.Object ms) = true
+is_object_at t = false
+
+-- the same of a tree
+abbrev pub is_object : Tree → Bool
+is_object t = is_object_at (out-Tree t)
+
+-- What is held, and with it the errors that show at the end.
+unfoldable pub closed : Gathered → Tree → Gathered
+closed g t = with_errors g (if is_object t then pairs_end g t else items_end g t)
+
+-- the value of what is held
+abbrev pub whole : Gathered → Bool → Value
+whole g object = if object then value.Dict g.entries else made_of g.rule.kind g.values
+
+-- the errors, or the value where there are none
+abbrev pub outcome_of : Gathered → Bool → Outcome
+outcome_of g object = unless_errors g.tally.errors (Good (whole g object) g.tally.grade g.tally.count)

@@ -1,7 +1,7 @@
-ghost use Rattle.std.specs.Prelude.{◌≡◌, ◌++◌, [], ◌∷◌, IfOk, OnOk};
+ghost use Rattle.std.specs.Prelude.{◌≡◌, ◌++◌, IfOk, OnOk};
 ghost use Rattle.pv_collect.specs.Gathering as spec;
 
-use pv_fault::{Faults, Kind, LineError, Outcome};
+use pv_fault::{Faults, Kind, LineError};
 use pv_rules::Collection;
 use pv_text::{Memory, Text};
 use pv_tree::{Loc, Step, Tree};
@@ -29,14 +29,6 @@ pub(crate) fn error_here(alloc: Global, kind: Kind, input: Tree) -> LineError
         loc: Loc::new(alloc),
         input,
     }
-}
-
-pub(crate) fn only_error(alloc: Global, kind: Kind, input: &Tree) -> Result<Outcome, Memory>
-    ensures { IfOk result (λ o. o ≡ Outcome.Bad (spec.error_here kind input.now ∷ [])) }
-{
-    let mut errors = Faults::new(alloc);
-    errors.push(error_here(alloc, kind, input.share(alloc)?))?;
-    Ok(Outcome::Bad(errors))
 }
 
 /// The name of a collection in a message.

@@ -1,24 +1,34 @@
 //! The outcome of a collection, when all its parts came.
 
-ghost use Rattle.std.specs.Prelude.{◌≡◌, ℕ, List, IfOk, length};
+ghost use Rattle.std.specs.Prelude.{◌≡◌, ◌++◌, ℕ, List, IfOk, OnOk, length};
 ghost use Rattle.pv_tree.specs.declared.Tree.{out-Tree};
 ghost use Rattle.pv_tree.specs.declared.Tree.TheOpen.{Tree-F};
 ghost use Rattle.pv_rules.specs.declared.GatherRule.{GatherRule};
-ghost use Rattle.pv_collect.specs.Gathering.{Part, Pair, gather_items, gather_pairs};
+ghost use Rattle.pv_fault.specs.declared.Outcome.TheVariants.{Good};
+ghost use Rattle.pv_collect.specs.Gathering.{Part, Pair, gather_items, gather_pairs, unless_errors};
 ghost use Rattle.pv_collect.specs.Gathering as gathering;
 ghost use Rattle.pv_collect.specs.State.{gathered_items, gathered_pairs};
 ghost use Rattle.pv_collect.specs.State as state;
 
-use crate::errors::{only_error, push_all_missing};
+use crate::errors::{error_here, push_all_missing};
 use crate::gather::Gather;
 use crate::lengths::{length_fault, wanted};
 use crate::merging::Distinct;
 use crate::tally::Tally;
-use pv_fault::Outcome;
+use pv_fault::{Faults, Outcome};
 use pv_rules::{Collection, GatherRule};
 use pv_text::Memory;
 use pv_tree::{Tree, Value, Values};
 use std::alloc::Global;
+
+fn is_object(input: &Tree) -> bool
+    ensures { result ≡ state.is_object input.now }
+{
+    match input {
+        Tree::Object(_) => true,
+        Tree::Null | Tree::Bool(_) | Tree::Num(_) | Tree::Str(_) | Tree::Array(_) => false,
+    }
+}
 
 /// How many items an array has; any other tree has none.
 fn items_in(input: &Tree) -> u64
@@ -50,103 +60,117 @@ fn made_of(kind: Collection, values: Values) -> Value
     }
 }
 
-/// A value of a collection that keeps so many of so many items.
-struct Whole {
-    value: Value,
+/// Where there are no errors, adds that of the first test of lengths that fails.
+fn push_length_fault(
+    alloc: Global,
+    errors: &mut Faults,
+    rule: &GatherRule,
     items: u64,
     kept: u64,
+    input: &Tree,
+) -> Result<(), Memory>
+    ensures { OnOk result (errors.new ≡ state.or_else errors.old (state.fault_errors (gathering.length_fault rule.now items kept) input.now)) }
+{
+    if errors.len() > 0 {
+        return Ok(());
+    }
+    let Some(fault) = length_fault(alloc, rule, items, kept)? else {
+        return Ok(());
+    };
+    errors.push(error_here(alloc, fault, input.share(alloc)?))
 }
 
-/// The errors, if there are any; else what is wrong with the lengths; else the value.
-#[tactic(auto, using(crate::proofs::Ends::some_errors, crate::proofs::Ends::no_errors))]
-fn close(
-    alloc: Global,
-    rule: &GatherRule,
-    input: &Tree,
-    tally: Tally,
-    whole: Whole,
-) -> Result<Outcome, Memory>
-    ensures { IfOk result (λ o. o ≡ state.closed rule.now input.now tally whole.value whole.items whole.kept) }
-{
-    let Tally {
-        errors,
-        grade,
-        count,
-    } = tally;
-    let Whole { value, items, kept } = whole;
-    if errors.len() > 0 {
-        return Ok(Outcome::Bad(errors));
-    }
-    match length_fault(alloc, rule, items, kept)? {
-        Some(fault) => only_error(alloc, fault, input),
-        None => Ok(Outcome::Good {
+impl Tally {
+    /// The errors, or the value where there are none.
+    fn into_outcome(self, value: Value) -> Outcome
+        ensures { result ≡ unless_errors self.errors (Good value self.grade self.count) }
+    {
+        let Tally {
+            errors,
+            grade,
+            count,
+        } = self;
+        if errors.len() > 0 {
+            return Outcome::Bad(errors);
+        }
+        Outcome::Good {
             value,
             grade,
             fields: count,
-        }),
+        }
     }
 }
 
-#[tactic(auto, unfolding(crate::specs::State::finished_items, crate::specs::State::finished_pairs, crate::specs::State::finished))]
+#[tactic(auto, unfolding(crate::specs::State::closed))]
 impl Gather {
-    fn finish_items(self, input: &Tree) -> Result<Outcome, Memory>
-        ensures { IfOk result (λ o. o ≡ state.finished_items self input.now) }
+    /// How many of the items are kept.
+    fn kept(&self) -> u64
+        ensures { result ≡ length self.now.values }
+    {
+        match self.rule.kind {
+            Collection::Set | Collection::Frozen => self.distinct.len() as u64,
+            Collection::List | Collection::Tuple | Collection::Dict => self.values.len() as u64,
+        }
+    }
+
+    fn close_items(&mut self, input: &Tree) -> Result<(), Memory>
+        ensures { OnOk result (self.new ≡ state.with_errors self.old (state.items_end self.old input.now)) }
+    {
+        let items = items_in(input);
+        let kept = self.kept();
+        let missing = wanted(&self.rule, items);
+        push_all_missing(self.alloc, &mut self.tally.errors, missing, items, input)?;
+        push_length_fault(
+            self.alloc,
+            &mut self.tally.errors,
+            &self.rule,
+            items,
+            kept,
+            input,
+        )
+    }
+
+    fn close_pairs(&mut self, input: &Tree) -> Result<(), Memory>
+        ensures { OnOk result (self.new ≡ state.with_errors self.old (state.pairs_end self.old input.now)) }
+    {
+        let kept = self.entries.len() as u64;
+        push_length_fault(
+            self.alloc,
+            &mut self.tally.errors,
+            &self.rule,
+            kept,
+            kept,
+            input,
+        )
+    }
+
+    /// Adds the errors that show when the last part came: missing positions, and wrong lengths.
+    fn close(&mut self, input: &Tree) -> Result<(), Memory>
+        ensures { OnOk result (self.new ≡ state.closed self.old input.now) }
+    {
+        if is_object(input) {
+            self.close_pairs(input)
+        } else {
+            self.close_items(input)
+        }
+    }
+
+    fn into_outcome(self, is_object: bool) -> Outcome
+        ensures { result ≡ state.outcome_of self is_object }
     {
         let Gather {
-            alloc,
+            alloc: _,
             rule,
             items: _,
             values,
             distinct,
-            entries: _,
-            mut tally,
-        } = self;
-        let items = items_in(input);
-        push_all_missing(alloc, &mut tally.errors, wanted(&rule, items), items, input)?;
-        let values = held(rule.kind, values, distinct);
-        let kept = values.len() as u64;
-        let value = made_of(rule.kind, values);
-        close(alloc, &rule, input, tally, Whole { value, items, kept })
-    }
-
-    fn finish_pairs(self, input: &Tree) -> Result<Outcome, Memory>
-        ensures { IfOk result (λ o. o ≡ state.finished_pairs self input.now) }
-    {
-        let Gather {
-            alloc,
-            rule,
-            items: _,
-            values: _,
-            distinct: _,
             entries,
             tally,
         } = self;
-        let entries = entries.into_entries();
-        let kept = entries.len() as u64;
-        let value = Value::Dict(entries);
-        close(
-            alloc,
-            &rule,
-            input,
-            tally,
-            Whole {
-                value,
-                items: kept,
-                kept,
-            },
-        )
-    }
-
-    fn finish_all(self, input: &Tree) -> Result<Outcome, Memory>
-        ensures { IfOk result (λ o. o ≡ state.finished self input.now) }
-    {
-        match input {
-            Tree::Null => self.finish_items(input),
-            Tree::Bool(_) => self.finish_items(input),
-            Tree::Num(_) => self.finish_items(input),
-            Tree::Str(_) => self.finish_items(input),
-            Tree::Array(_) => self.finish_items(input),
-            Tree::Object(_) => self.finish_pairs(input),
+        if is_object {
+            tally.into_outcome(Value::Dict(entries.into_entries()))
+        } else {
+            tally.into_outcome(made_of(rule.kind, held(rule.kind, values, distinct)))
         }
     }
 
@@ -159,6 +183,8 @@ impl Gather {
             out-Tree input.now ≡ Tree-F.Object ms → self ≡ gathered_pairs rule ps →
             o ≡ gather_pairs rule input.now ps) }
     {
-        self.finish_all(input)
+        let mut gather = self;
+        gather.close(input)?;
+        Ok(gather.into_outcome(is_object(input)))
     }
 }

@@ -1,6 +1,6 @@
 //! The parts of a collection, one after the other.
 
-ghost use Rattle.std.specs.Prelude.{◌≡◌, [], ◌∷◌, ◌++◌, List, IfOk, Some};
+ghost use Rattle.std.specs.Prelude.{◌≡◌, [], ◌∷◌, ◌++◌, List, IfOk, OnOk};
 ghost use Rattle.pv_rules.specs.declared.GatherRule.{GatherRule};
 ghost use Rattle.pv_collect.specs.Gathering.{Part, Pair};
 ghost use Rattle.pv_collect.specs.Gathering as gathering;
@@ -71,32 +71,25 @@ impl Gather {
     }
 
     /// Adds a value to those of the collection, where sets keep the first of equal ones.
-    fn keep(self, value: Value) -> Result<Gather, Memory>
-        ensures { IfOk result (λ g. g ≡ record self { values = state.put_kept self.rule.kind self.values value }) }
+    fn keep(&mut self, value: Value) -> Result<(), Memory>
+        ensures { OnOk result (self.new ≡ record self.old { values = state.put_kept self.old.rule.kind self.old.values value }) }
     {
-        let mut gather = self;
-        match gather.rule.kind {
-            Collection::Set | Collection::Frozen => gather.distinct = gather
-                .distinct
-                .put(gather.alloc, value)?,
-            Collection::List | Collection::Tuple | Collection::Dict => gather.values.push(value)?,
+        match self.rule.kind {
+            Collection::Set | Collection::Frozen => self.distinct.put(self.alloc, value)?,
+            Collection::List | Collection::Tuple | Collection::Dict => self.values.push(value)?,
         }
-        Ok(gather)
+        Ok(())
     }
 
-    fn add_item(self, outcome: Outcome, input: &Tree) -> Result<Gather, Memory>
-        ensures { IfOk result (λ g. g ≡ added_item self input.now outcome) }
+    fn add_item(&mut self, outcome: Outcome, input: &Tree) -> Result<(), Memory>
+        ensures { OnOk result (self.new ≡ added_item self.old input.now outcome) }
     {
-        let mut gather = self;
-        let kind = gather.rule.kind;
-        let next = gather.items.checked_add(1).ok_or(Memory)?;
-        let value = gather
-            .tally
-            .item(gather.alloc, kind, gather.items, outcome, input)?;
-        gather.items = next;
-        match value {
-            Some(value) => gather.keep(value),
-            None => Ok(gather),
+        let kind = self.rule.kind;
+        let place = self.items;
+        self.items = place.checked_add(1).ok_or(Memory)?;
+        match self.tally.item(self.alloc, kind, place, outcome, input)? {
+            Some(value) => self.keep(value),
+            None => Ok(()),
         }
     }
 
@@ -104,38 +97,27 @@ impl Gather {
     pub fn item(self, outcome: Outcome, input: &Tree) -> Result<Gather, Memory>
         ensures { IfOk result (λ g. (rule : GatherRule) (ps : List Part) → self ≡ gathered_items rule ps → g ≡ gathered_items rule (ps ++ record { input = input.now; outcome = outcome } ∷ [])) }
     {
-        self.add_item(outcome, input)
-    }
-
-    /// Adds an entry to those of a dict, if its key and its value are there.
-    fn keep_entry(self, key: Option<Value>, value: Option<Value>) -> Result<Gather, Memory>
-        ensures { IfOk result (λ g. g ≡ record self { entries = state.put_valid_entry self.entries key value }) }
-    {
         let mut gather = self;
-        let Some(key) = key else {
-            return Ok(gather);
-        };
-        let Some(value) = value else {
-            return Ok(gather);
-        };
-        gather.entries = gather.entries.put(gather.alloc, key, value)?;
+        gather.add_item(outcome, input)?;
         Ok(gather)
     }
 
-    fn add_pair(self, name: &Text, key: Outcome, value: Outcome) -> Result<Gather, Memory>
-        ensures { IfOk result (λ g. g ≡ added_pair self name.now key value) }
+    fn add_pair(&mut self, name: &Text, key: Outcome, value: Outcome) -> Result<(), Memory>
+        ensures { OnOk result (self.new ≡ added_pair self.old name.now key value) }
     {
-        let mut gather = self;
-        let next = gather.items.checked_add(1).ok_or(Memory)?;
-        let (key, value) = gather.tally.pair(gather.alloc, name, key, value)?;
-        gather.items = next;
-        gather.keep_entry(key, value)
+        self.items = self.items.checked_add(1).ok_or(Memory)?;
+        match self.tally.pair(self.alloc, name, key, value)? {
+            Some(entry) => self.entries.put(self.alloc, entry),
+            None => Ok(()),
+        }
     }
 
     /// Adds the outcomes of the next member's key and value.
     pub fn pair(self, name: &Text, key: Outcome, value: Outcome) -> Result<Gather, Memory>
         ensures { IfOk result (λ g. (rule : GatherRule) (ps : List Pair) → self ≡ gathered_pairs rule ps → g ≡ gathered_pairs rule (ps ++ record { name = name.now; key = key; value = value } ∷ [])) }
     {
-        self.add_pair(name, key, value)
+        let mut gather = self;
+        gather.add_pair(name, key, value)?;
+        Ok(gather)
     }
 }

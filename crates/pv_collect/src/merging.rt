@@ -1,6 +1,7 @@
 //! What sets keep of equal items, and dicts of equal keys.
 
-ghost use Rattle.std.specs.Prelude.{◌≡◌, [], IfOk};
+ghost use Rattle.std.specs.Prelude.{◌≡◌, ◌+◌, ◌<◌, List, [], ◌∷◌, ◌++◌, OnOk, length, slice_set, slice_index_or};
+ghost use Rattle.pv_tree.specs.declared.Value as tree_value;
 ghost use Rattle.pv_equality.specs.Merging as spec;
 
 use pv_distinct::{Place, Seen};
@@ -12,7 +13,7 @@ use std::marker::Model;
 /// Values no two of which are the same.
 #[derive(Drop)]
 pub(crate) struct Distinct {
-    values: Values,
+    values: Vec<Value>,
     seen: Seen,
 }
 
@@ -27,9 +28,9 @@ impl Model for Distinct {
 
     ghost coded = { Prim.hlevel (codes, value.the_row.coded) };
 
-    ghost view = { λ d. d.values };
+    ghost view = { λ d. d.values.items };
 
-    ghost invariant = { λ d. IsSeen d.seen d.values };
+    ghost invariant = { λ d. IsSeen d.seen d.values.items };
 }
 
 impl Distinct {
@@ -37,24 +38,32 @@ impl Distinct {
         ensures { result ≡ [] }
     {
         Distinct {
-            values: Values::new(alloc),
+            values: Vec::new(alloc),
             seen: Seen::new(alloc),
         }
     }
 
-    /// Adds a value, unless one that is there is the same.
-    pub(crate) fn put(self, alloc: Global, value: Value) -> Result<Distinct, Memory>
-        ensures { IfOk result (λ d. d ≡ spec.put_item self value) }
+    pub(crate) fn len(&self) -> usize
+        ensures { result ≡ length self.now }
     {
-        let Distinct {
-            mut values,
-            mut seen,
-        } = self;
-        match seen.place(alloc, &value)? {
-            Place::Old(_) => Ok(Distinct { values, seen }),
-            Place::New => {
-                values.push(value)?;
-                Ok(Distinct { values, seen })
+        self.values.len()
+    }
+
+    /// Adds a value, unless one that is there is the same.
+    pub(crate) fn put(&mut self, alloc: Global, value: Value) -> Result<(), Memory>
+        ensures { OnOk result (self.new ≡ spec.put_item self.old value) }
+    {
+        let last = self.values.len();
+        self.values.push(value)?;
+        match self.seen.place(alloc, &self.values[last]) {
+            Ok(Place::New) => Ok(()),
+            Ok(Place::Old(_)) => {
+                self.values.truncate(last);
+                Ok(())
+            }
+            Err(memory) => {
+                self.values.truncate(last);
+                Err(memory)
             }
         }
     }
@@ -63,7 +72,30 @@ impl Distinct {
         ensures { result ≡ self }
     {
         let Distinct { values, seen: _ } = self;
-        values
+        Values::from_vec(values)
+    }
+}
+
+/// The entry at a place takes this value.
+fn set_value(entries: &mut Vec<(Value, Value)>, place: usize, value: Value)
+    requires { place < length entries.old.items }
+    ensures { (e : tree_value.Value × tree_value.Value) → entries.new.items
+        ≡ slice_set entries.old.items place ((slice_index_or entries.old.items place e).0, value) }
+{
+    entries[place].1 = value;
+}
+
+/// The last entry goes, and its value goes to the entry at a place before it.
+#[tactic(auto, using(crate::proofs::Merges::moved))]
+fn move_last_value(entries: &mut Vec<(Value, Value)>, place: usize)
+    requires { place + 1 < length entries.old.items }
+    ensures { (es : List (tree_value.Value × tree_value.Value)) (e : tree_value.Value × tree_value.Value)
+        → entries.old.items ≡ es ++ e ∷ []
+        → entries.new.items ≡ slice_set es place ((slice_index_or es place e).0, e.1) }
+{
+    if let Some((key, value)) = entries.pop() {
+        drop(key);
+        set_value(entries, place, value);
     }
 }
 
@@ -101,22 +133,27 @@ impl Merged {
         }
     }
 
-    /// Adds an entry; where a key that is there is the same, it keeps its place and takes the value.
-    pub(crate) fn put(self, alloc: Global, key: Value, value: Value) -> Result<Merged, Memory>
-        ensures { IfOk result (λ m. m ≡ spec.put_entry self key value) }
+    pub(crate) fn len(&self) -> usize
+        ensures { result ≡ length self.now }
     {
-        let Merged {
-            mut entries,
-            mut seen,
-        } = self;
-        match seen.place(alloc, &key)? {
-            Place::Old(place) => {
-                entries[place].1 = value;
-                Ok(Merged { entries, seen })
+        self.entries.len()
+    }
+
+    /// Adds an entry; where a key that is there is the same, it keeps its place and takes the value.
+    pub(crate) fn put(&mut self, alloc: Global, entry: (Value, Value)) -> Result<(), Memory>
+        ensures { OnOk result (self.new ≡ spec.put_entry self.old entry.0 entry.1) }
+    {
+        let last = self.entries.len();
+        self.entries.push(entry)?;
+        match self.seen.place(alloc, &self.entries[last].0) {
+            Ok(Place::New) => Ok(()),
+            Ok(Place::Old(place)) => {
+                move_last_value(&mut self.entries, place);
+                Ok(())
             }
-            Place::New => {
-                entries.push((key, value))?;
-                Ok(Merged { entries, seen })
+            Err(memory) => {
+                self.entries.truncate(last);
+                Err(memory)
             }
         }
     }

@@ -2,6 +2,7 @@
 
 ghost use Rattle.std.specs.Prelude.{◌≡◌, ◌++◌, [], ◌≤◌, IfOk, OnOk, None, codes};
 ghost use Rattle.std.specs.Prelude.{length};
+ghost use Rattle.std.specs.Option.{option_zip};
 ghost use Rattle.pv_tree.specs.declared.Step.TheVariants.{Name, Index};
 ghost use Rattle.pv_fault.specs.Under.{all_under, all_under_from};
 ghost use Rattle.pv_collect.specs.Gathering as spec;
@@ -99,12 +100,13 @@ impl Tally {
         let Some(value) = self.take(outcome)? else {
             return Ok(None);
         };
-        if needs_hash(kind) && !hashable(&value) {
-            let error = error_here(alloc, Kind::SetItemNotHashable, input.share(alloc)?);
-            self.errors.push(error)?;
-            return Ok(None);
+        if !needs_hash(kind) || hashable(&value) {
+            return Ok(Some(value));
         }
-        Ok(Some(value))
+        drop(value);
+        let error = error_here(alloc, Kind::SetItemNotHashable, input.share(alloc)?);
+        self.errors.push(error)?;
+        Ok(None)
     }
 
     /// Notes the outcome of the item at this place, and gives the value that it adds.
@@ -137,16 +139,14 @@ impl Tally {
         let Some(key) = self.take(outcome)? else {
             return Ok(None);
         };
-        if !hashable(&key) {
-            let error = error_here(
-                alloc,
-                Kind::DictKeyNotHashable,
-                Tree::Str(name.share(alloc)?),
-            );
-            self.errors.push(error)?;
-            return Ok(None);
+        if hashable(&key) {
+            return Ok(Some(key));
         }
-        Ok(Some(key))
+        drop(key);
+        let input = Tree::Str(name.share(alloc)?);
+        self.errors
+            .push(error_here(alloc, Kind::DictKeyNotHashable, input))?;
+        Ok(None)
     }
 
     /// Notes the outcome of the key of a member, and gives the key that it adds.
@@ -162,22 +162,43 @@ impl Tally {
         Ok(key)
     }
 
-    /// Notes the outcomes of a member's key and value, and gives both as far as they add something.
+    /// Puts the name of a member in front of the errors from the place `from` on.
+    fn under_name(&mut self, alloc: Global, from: usize, name: &Text) -> Result<(), Memory>
+        requires { from ≤ length self.old.errors }
+        ensures { OnOk result (self.new ≡ record self.old { errors = all_under_from from (Name name.now) self.old.errors }) }
+    {
+        self.under(from, Step::Name(name.share(alloc)?))
+    }
+
+    fn pair_here(
+        &mut self,
+        alloc: Global,
+        name: &Text,
+        key: Outcome,
+        value: Outcome,
+    ) -> Result<Option<(Value, Value)>, Memory>
+        ensures entry { IfOk result (λ e. e ≡ option_zip (valid_key key) (valid_value value)) }
+        ensures noted { OnOk result (self.new ≡ tallied (tallied self.old key (all_under (Name (codes "[key]")) (spec.key_errors name.now key))) value (spec.errors_of value)) }
+    {
+        let key = self.key(alloc, name, key)?;
+        let value = self.take(value)?;
+        Ok(key.zip(value))
+    }
+
+    /// Notes the outcomes of a member's key and value, and gives the entry that they add.
     pub(crate) fn pair(
         &mut self,
         alloc: Global,
         name: &Text,
         key: Outcome,
         value: Outcome,
-    ) -> Result<(Option<Value>, Option<Value>), Memory>
-        ensures key { IfOk result (λ p. p.0 ≡ valid_key key) }
-        ensures value { IfOk result (λ p. p.1 ≡ valid_value value) }
+    ) -> Result<Option<(Value, Value)>, Memory>
+        ensures entry { IfOk result (λ e. e ≡ option_zip (valid_key key) (valid_value value)) }
         ensures noted { OnOk result (self.new ≡ tallied_pair self.old name.now key value) }
     {
         let from = self.errors.len();
-        let key = self.key(alloc, name, key)?;
-        let value = self.take(value)?;
-        self.under(from, Step::Name(name.share(alloc)?))?;
-        Ok((key, value))
+        let entry = self.pair_here(alloc, name, key, value)?;
+        self.under_name(alloc, from, name)?;
+        Ok(entry)
     }
 }

@@ -1,9 +1,10 @@
-use Rattle.std.proofs.lemmas.Result.{IfOk-weaker}
 use Rattle.pv_collect.proofs.Ends.{items_finished, pairs_finished}
 use Rattle.pv_collect.proofs.gather.Gather.finish.Goals as goal
 
 pub returns-clause-items : goal.returns-clause-items
-returns-clause-items c = IfOk-weaker c.finish_all.result _ _ (λ o e. items_finished c.args.self o c.args.input.now e) c.finish_all.ensures
+returns-clause-items c =
+    items_finished c.args.self c.close.new.self c.is_object.result c.into_outcome.result c.args.input.now c.in_ok-close.ensures c.is_object.ensures c.into_outcome.ensures
 
 pub returns-clause-pairs : goal.returns-clause-pairs
-returns-clause-pairs c = IfOk-weaker c.finish_all.result _ _ (λ o e. pairs_finished c.args.self o c.args.input.now e) c.finish_all.ensures
+returns-clause-pairs c =
+    pairs_finished c.args.self c.close.new.self c.is_object.result c.into_outcome.result c.args.input.now c.in_ok-close.ensures c.is_object.ensures c.into_outcome.ensures

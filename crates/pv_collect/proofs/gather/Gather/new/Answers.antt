@@ -1,4 +1,3 @@
-use Rattle.std.proofs.Common.{rules}
 use Rattle.pv_collect.proofs.Held.{no_items, no_pairs}
 use Rattle.pv_collect.proofs.gather.Gather.new.Goals as goal
 

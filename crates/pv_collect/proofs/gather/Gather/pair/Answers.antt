@@ -1,6 +1,5 @@
-use Rattle.std.proofs.lemmas.Result.{IfOk-weaker}
 use Rattle.pv_collect.proofs.Held.{pair_held}
 use Rattle.pv_collect.proofs.gather.Gather.pair.Goals as goal
 
 pub returns : goal.returns
-returns c = IfOk-weaker c.add_pair.result _ _ (λ h e. pair_held c.args.self h c.args.name.now c.args.key c.args.value e) c.add_pair.ensures
+returns c = pair_held c.args.self c.add_pair.new.self c.args.name.now c.args.key c.args.value c.in_ok-add_pair.ensures

@@ -1,35 +1,41 @@
-use Rattle.std.proofs.Common.{◌<◌, List, length, refl, rules}
+use Rattle.std.proofs.Common.{◌≡◌, ◌<◌, ◌+◌, List, length, refl, ap, rules}
 use Rattle.pv_tree.specs.declared.Value.{Value}
-use Rattle.pv_collect.specs.State.{keys_of}
-use Rattle.pv_collect.proofs.Merges.{entry_changed, entry_added, seen_entries, is_below}
+use Rattle.pv_collect.proofs.Merges.{last_is, moved_entry, pushed_entry, within, seen_put}
 use Rattle.pv_collect.proofs.merging.Merged.put.Goals as goal
 
-pub index_mut-requires : goal.index_mut-requires
-index_mut-requires c =
+pub move_last_value-requires : goal.move_last_value-requires
+move_last_value-requires c =
     let es : List (Value × Value) = c.self.inside.entries.items in
-    let below : c.in-Old.place < length es = is_below c.in-Old.place es c.args.key c.in_ok-place.field-0 (c.in_ok-place.ensures.place (keys_of es) c.self.invariant) c.in-Old.is in
+    let below : c.in-Ok-Old.place + 1 < length c.push.new.self.items =
+    within c.in-Ok-Old.place es c.push.new.self.items c.args.entry c.index.result.now.0 c.in-Ok-Old.field-0 (search rules) (search rules) c.in-Ok-Old.field-0-is in
     search rules
 
-pub invariant_of-result : goal.invariant_of-result
-invariant_of-result c =
+pub invariant_of-self-in-Ok-New : goal.invariant_of-self-in-Ok-New
+invariant_of-self-in-Ok-New c =
     let es : List (Value × Value) = c.self.inside.entries.items in
-    seen_entries c.place.new.self es _ c.args.key c.args.value
-    (entry_changed c.in-Old.place es es c.args.key c.args.value c.index_mut.result.now c.in_ok-place.field-0 refl (c.in_ok-place.ensures.place (keys_of es) c.self.invariant) c.in-Old.is (search rules))
-    (c.in_ok-place.ensures.seen (keys_of es) c.self.invariant)
+    let last : c.index.result.now ≡ c.args.entry = last_is es c.push.new.self.items c.args.entry c.index.result.now c.len-last.result (search rules) (search rules) c.index.ensures in
+    seen_put c.place.new.self es c.push.new.self.items c.args.entry c.index.result.now.0 (ap (λ e. e.0) last)
+    (pushed_entry es es c.push.new.self.items c.args.entry c.index.result.now.0 c.in-Ok-New.field-0 refl (ap (λ e. e.0) last) (search rules) c.in-Ok-New.field-0-is (search rules))
+    (search rules)
 
-pub invariant_of-result-in-New : goal.invariant_of-result-in-New
-invariant_of-result-in-New c =
+pub invariant_of-self-in-Ok-Old : goal.invariant_of-self-in-Ok-Old
+invariant_of-self-in-Ok-Old c =
     let es : List (Value × Value) = c.self.inside.entries.items in
-    seen_entries c.place.new.self es _ c.args.key c.args.value
-    (entry_added es es c.push.new.self.items c.args.key c.args.value c.in_ok-place.field-0 refl (c.in_ok-place.ensures.place (keys_of es) c.self.invariant) c.in-New.is (search rules))
-    (c.in_ok-place.ensures.seen (keys_of es) c.self.invariant)
+    let last : c.index.result.now ≡ c.args.entry = last_is es c.push.new.self.items c.args.entry c.index.result.now c.len-last.result (search rules) (search rules) c.index.ensures in
+    seen_put c.place.new.self es c.move_last_value.new.entries.items c.args.entry c.index.result.now.0 (ap (λ e. e.0) last)
+    (moved_entry c.in-Ok-Old.place es es c.move_last_value.new.entries.items c.push.new.self.items c.args.entry c.index.result.now.0 c.in-Ok-Old.field-0
+    refl (ap (λ e. e.0) last) (search rules) c.in-Ok-Old.field-0-is (search rules) c.move_last_value.ensures)
+    (search rules)
 
-pub returns-in-Old : goal.returns-in-Old
-returns-in-Old c =
+pub returns-in-Ok-New : goal.returns-in-Ok-New
+returns-in-Ok-New c =
     let es : List (Value × Value) = c.self.inside.entries.items in
-    entry_changed c.in-Old.place es c.args.self c.args.key c.args.value c.index_mut.result.now c.in_ok-place.field-0 (search rules) (c.in_ok-place.ensures.place (keys_of es) c.self.invariant) c.in-Old.is (search rules)
+    let last : c.index.result.now ≡ c.args.entry = last_is es c.push.new.self.items c.args.entry c.index.result.now c.len-last.result (search rules) (search rules) c.index.ensures in
+    pushed_entry es c.args.self.now c.push.new.self.items c.args.entry c.index.result.now.0 c.in-Ok-New.field-0 (search rules) (ap (λ e. e.0) last) (search rules) c.in-Ok-New.field-0-is (search rules)
 
-pub returns-in_ok-push-in-New : goal.returns-in_ok-push-in-New
-returns-in_ok-push-in-New c =
+pub returns-in-Ok-Old : goal.returns-in-Ok-Old
+returns-in-Ok-Old c =
     let es : List (Value × Value) = c.self.inside.entries.items in
-    entry_added es c.args.self c.push.new.self.items c.args.key c.args.value c.in_ok-place.field-0 (search rules) (c.in_ok-place.ensures.place (keys_of es) c.self.invariant) c.in-New.is (search rules)
+    let last : c.index.result.now ≡ c.args.entry = last_is es c.push.new.self.items c.args.entry c.index.result.now c.len-last.result (search rules) (search rules) c.index.ensures in
+    moved_entry c.in-Ok-Old.place es c.args.self.now c.move_last_value.new.entries.items c.push.new.self.items c.args.entry c.index.result.now.0 c.in-Ok-Old.field-0
+    (search rules) (ap (λ e. e.0) last) (search rules) c.in-Ok-Old.field-0-is (search rules) c.move_last_value.ensures
