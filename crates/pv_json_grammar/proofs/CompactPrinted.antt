@@ -6,7 +6,7 @@ use Rattle.std.proofs.lemmas.List.Elements.{All-from_recursion, All-weaker, recu
 use Rattle.std.specs.Prelude.{All, IsTrue, IsUtf8, ◌⊎◌}
 use Rattle.std.specs.List.{AllByRecursion, flat_map}
 use Rattle.pv_number.specs.Scanning.{is_digit}
-use Rattle.pv_number.specs.Grammar.{AllDigits, IsMinus, IsSign, IsWhole, IsFraction, IsExponent, IsNumber}
+use Rattle.pv_number.specs.Grammar.{AllDigits, IsMinus, IsSign, IsIntegerPart, IsFraction, IsExponent, IsNumber}
 use Rattle.pv_tree.specs.declared.Tree.{Tree, out-Tree, roll-Tree, roll-out-Tree}
 use Rattle.pv_tree.specs.declared.Tree.TheVariants.{rolls-Object}
 use Rattle.pv_tree.specs.declared.Tree.TheOpen.{Tree-F}
@@ -55,7 +55,7 @@ sign_printed t (inl e) = subst Printed (sym e) tt
 sign_printed t (inr (inl e)) = subst Printed (sym e) (omega arith, tt)
 sign_printed t (inr (inr e)) = subst Printed (sym e) (omega arith, tt)
 
-whole_printed : (t : List ℕ) → IsWhole t → Printed t
+whole_printed : (t : List ℕ) → IsIntegerPart t → Printed t
 whole_printed t (inl e) = subst Printed (sym e) (omega arith, tt)
 whole_printed t (inr (b, bs, e, n, d, ds)) = subst Printed (sym e) (digit_printed b d, digits_printed bs ds)
 

@@ -4,7 +4,7 @@ use Rattle.std.specs.List.{AllByRecursion}
 use Rattle.std.proofs.lemmas.Bool.{false≢true}
 use Rattle.std.proofs.lemmas.List.Elements.{All-from_recursion}
 use Rattle.pv_number.specs.Scanning.{is_digit}
-use Rattle.pv_number.specs.Grammar.{IsNumber, AllDigits, IsMinus, IsSign, IsWhole, IsFraction, IsExponent}
+use Rattle.pv_number.specs.Grammar.{IsNumber, AllDigits, IsMinus, IsSign, IsIntegerPart, IsFraction, IsExponent}
 use Rattle.pv_tree.specs.declared.Tree.{Tree, map-Tree}
 use Rattle.pv_tree.specs.declared.Tree.TheOpen.{Tree-F}
 use Rattle.pv_tree.specs.declared.Tree.TheViews.{roll-Tree, out-roll-Tree}
@@ -35,7 +35,7 @@ sign_line t (inl e) = line_at t [] e tt
 sign_line t (inr (inl e)) = line_at t (45 ∷ []) e (omega arith, tt)
 sign_line t (inr (inr e)) = line_at t (43 ∷ []) e (omega arith, tt)
 
-whole_line : (t : List ℕ) → IsWhole t → IsLine t
+whole_line : (t : List ℕ) → IsIntegerPart t → IsLine t
 whole_line t (inl e) = line_at t (48 ∷ []) e (omega arith, tt)
 whole_line t (inr w) = line_at t (w.0 ∷ w.1) w.2 (digit_other w.0 w.4, digits_line w.1 w.5)
 

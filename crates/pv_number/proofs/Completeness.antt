@@ -3,7 +3,7 @@ use Rattle.std.proofs.Common.{◌≡◌, ℕ, suc, ◌+◌, ◌<◌, ◌≤◌, 
 use Rattle.std.proofs.lemmas.Bool.{leb-true, ne_eqb, eq-eqb, false≢true}
 use Rattle.std.specs.Prelude.{◌⊎◌, ◌==◌, ◌||◌, ◌&&◌, nat_le, IsTrue}
 use Rattle.pv_number.specs.Scanning.{is_digit, digits, begins, some_digits, minus_len, sign_len, whole_len, fraction_len, exponent_len, number_len, is_number}
-use Rattle.pv_number.specs.Grammar.{AllDigits, SomeDigits, IsMinus, IsSign, IsWhole, IsFraction, IsExponent, IsNumber, Stops}
+use Rattle.pv_number.specs.Grammar.{AllDigits, SomeDigits, IsMinus, IsSign, IsIntegerPart, IsFraction, IsExponent, IsNumber, Stops}
 
 -- no digit comes first
 abbrev NoDigit : List ℕ → Type 0
@@ -84,7 +84,7 @@ sign_ok g ds rest (inl n) s = rw n (no_sign ds rest s)
 sign_ok g ds rest (inr (inl n)) s = rw n refl
 sign_ok g ds rest (inr (inr n)) s = rw n refl
 
-whole_ok : (w rest : List ℕ) → IsWhole w → NoDigit rest → whole_len (w ++ rest) ≡ Ok (length w)
+whole_ok : (w rest : List ℕ) → IsIntegerPart w → NoDigit rest → whole_len (w ++ rest) ≡ Ok (length w)
 unfolding whole_len
 whole_ok w rest (inl n) d = rw n refl
 whole_ok w rest (inr (b, bs, e, n, i, a)) d =
@@ -109,7 +109,7 @@ exponent_ok e rest (inr (c, g, ds, w, l, i, d)) s =
 drop_at : (n : ℕ) (bs xs ys : List ℕ) → bs ≡ xs ++ ys → n ≡ length xs → drop n bs ≡ ys
 drop_at n bs xs ys e f = rw (e, f) (drop_front xs ys)
 
-whole_begins : (w rest : List ℕ) → IsWhole w → begins 45 (w ++ rest) ≡ false
+whole_begins : (w rest : List ℕ) → IsIntegerPart w → begins 45 (w ++ rest) ≡ false
 whole_begins w rest (inl n) = rw n refl
 whole_begins w rest (inr (b, bs, e, n, i, a)) = let l = digit_bounds b i in rw e (ne_eqb b 45 (omega arith))
 

@@ -5,7 +5,7 @@ use Rattle.std.proofs.lemmas.List.{take-append-drop, length-take-le}
 use Rattle.std.proofs.lemmas.Bool.{eqb-true, eqb-false, false≢true}
 use Rattle.std.specs.Prelude.{Result, ◌⊎◌, ◌==◌, ◌||◌, ◌≢◌, ◌↔◌, IsTrue}
 use Rattle.pv_number.specs.Scanning.{◌>>=◌, is_digit, digits, begins, some_digits, minus_len, sign_len, whole_len, fraction_len, exponent_len, number_len, reaches, is_number}
-use Rattle.pv_number.specs.Grammar.{AllDigits, SomeDigits, IsMinus, IsSign, IsWhole, IsFraction, IsExponent, IsNumber}
+use Rattle.pv_number.specs.Grammar.{AllDigits, SomeDigits, IsMinus, IsSign, IsIntegerPart, IsFraction, IsExponent, IsNumber}
 use Rattle.pv_number.proofs.Completeness.{is_number_complete}
 
 bind_ok : {A B : Type 0} (r : Result A ℕ) (f : A → Result B ℕ) (y : B) → (r >>= f) ≡ Ok y → (x : A) × (r ≡ Ok x) × (f x ≡ Ok y)
@@ -85,12 +85,12 @@ sign_sound bs = by (begins 45 bs || begins 43 bs) refl
     ]
     by false e = (inl refl, omega arith)
 
-no_zero : (bs : List ℕ) (n : ℕ) → begins 48 bs ≡ false → SomeDigits (take n bs) → IsWhole (take n bs)
+no_zero : (bs : List ℕ) (n : ℕ) → begins 48 bs ≡ false → SomeDigits (take n bs) → IsIntegerPart (take n bs)
 no_zero bs zero e s = absurd (let l : 0 < 0 = s.1 in omega arith)
 no_zero [] (suc n) e s = absurd (let l : 0 < 0 = s.1 in omega arith)
 no_zero (b ∷ bs) (suc n) e s = inr (b, take n bs, refl, eqb-false b 48 e, (s.0).0, (s.0).1)
 
-whole_sound : (bs : List ℕ) (n : ℕ) → whole_len bs ≡ Ok n → IsWhole (take n bs) × (n ≤ length bs)
+whole_sound : (bs : List ℕ) (n : ℕ) → whole_len bs ≡ Ok n → IsIntegerPart (take n bs) × (n ≤ length bs)
 unfolding whole_len
 whole_sound bs n e = elim (chosen (begins 48 bs) (Ok 1) (some_digits 0 bs) (Ok n) e) [
   | inl h ↦ (let (rest, is) = begins_is 48 bs h.0 in rw (is, ← ok_same 1 n h.1) (inl refl, omega arith))

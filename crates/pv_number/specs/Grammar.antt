@@ -17,8 +17,8 @@ abbrev pub IsSign : List ℕ → Type 0
 IsSign t = (t ≡ []) ⊎ ((t ≡ 45 ∷ []) ⊎ (t ≡ 43 ∷ []))
 
 -- no leading zero
-abbrev pub IsWhole : List ℕ → Type 0
-IsWhole t = (t ≡ 48 ∷ []) ⊎ ((b : ℕ) × (bs : List ℕ) × (t ≡ b ∷ bs) × (b ≢ 48) × IsTrue (is_digit b) × AllDigits bs)
+abbrev pub IsIntegerPart : List ℕ → Type 0
+IsIntegerPart t = (t ≡ 48 ∷ []) ⊎ ((b : ℕ) × (bs : List ℕ) × (t ≡ b ∷ bs) × (b ≢ 48) × IsTrue (is_digit b) × AllDigits bs)
 
 abbrev pub IsFraction : List ℕ → Type 0
 IsFraction t = (t ≡ []) ⊎ ((ds : List ℕ) × (t ≡ 46 ∷ ds) × SomeDigits ds)
@@ -33,7 +33,7 @@ pub record IsNumber (text : List ℕ) : Type 0 where
   pub exponent : List ℕ
   pub parts : text ≡ minus ++ (whole ++ (fraction ++ exponent))
   pub is_minus : IsMinus minus
-  pub is_whole : IsWhole whole
+  pub is_whole : IsIntegerPart whole
   pub is_fraction : IsFraction fraction
   pub is_exponent : IsExponent exponent
 

@@ -113,3 +113,5 @@ impl Lexeme {
         }
     }
 }
+
+const _: () = prove!(size_of::<Lexeme>() == 16);

@@ -170,3 +170,5 @@ impl Hash for Text {
         self.as_str().hash(state);
     }
 }
+
+const _: () = prove!(size_of::<Text>() == 16);

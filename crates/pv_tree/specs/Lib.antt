@@ -1,4 +1,6 @@
 pub mod formers
+pub mod Names
 pub mod Merging
-pub mod Plain
 pub mod Merged
+pub mod Parts
+pub mod Plain

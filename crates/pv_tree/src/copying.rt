@@ -2,56 +2,63 @@
 
 ghost use Rattle.std.specs.Prelude.{◌≡◌, IfOk};
 
+use crate::row::Row;
 use crate::value::{Entries, Named, Names, Value, Values};
 use pv_text::{Bytes, Memory, Text};
 use sqlite_items::{Boxed, Items};
 use std::alloc::Global;
 
-fn copy_names(alloc: Global, names: &[Text]) -> Result<Names, Memory>
+fn copy_names(alloc: Global, names: &Names) -> Result<Names, Memory>
     ensures { IfOk result (λ all. all ≡ names.now) }
 {
-    let mut all = Items::new(alloc);
-    for name in names {
+    if let Some(row) = names.try_share() {
+        return Ok(row);
+    }
+    let mut all = Vec::with_capacity(alloc, names.len())?;
+    for name in names.as_slice() {
         all.push(name.share(alloc)?)?;
     }
-    Ok(all)
+    Row::from_vec(alloc, all)
 }
 
 #[cycle(copy)]
 fn copy_values(alloc: Global, values: &[Value]) -> Result<Values, Memory>
     ensures { IfOk result (λ all. all ≡ values.now) }
 {
-    let mut all = Items::new(alloc);
+    let mut all = Vec::with_capacity(alloc, values.len())?;
     for value in values {
         all.push(value.copy(alloc)?)?;
     }
-    Ok(all)
+    Ok(Items::from_vec(all))
 }
 
 #[cycle(copy)]
-fn copy_named(alloc: Global, named: &[(Text, Value)]) -> Result<Named, Memory>
+fn copy_named(alloc: Global, named: &Named) -> Result<Named, Memory>
     ensures { IfOk result (λ all. all ≡ named.now) }
 {
-    let mut all = Items::new(alloc);
-    for (name, value) in named {
+    if let Some(row) = named.try_share() {
+        return Ok(row);
+    }
+    let mut all = Vec::with_capacity(alloc, named.len())?;
+    for (name, value) in named.as_slice() {
         let name = name.share(alloc)?;
         let value = value.copy(alloc)?;
         all.push((name, value))?;
     }
-    Ok(all)
+    Row::from_vec(alloc, all)
 }
 
 #[cycle(copy)]
 fn copy_entries(alloc: Global, entries: &[(Value, Value)]) -> Result<Entries, Memory>
     ensures { IfOk result (λ all. all ≡ entries.now) }
 {
-    let mut all = Items::new(alloc);
+    let mut all = Vec::with_capacity(alloc, entries.len())?;
     for (key, value) in entries {
         let key = key.copy(alloc)?;
         let value = value.copy(alloc)?;
         all.push((key, value))?;
     }
-    Ok(all)
+    Ok(Items::from_vec(all))
 }
 
 #[cycle(copy)]
@@ -95,9 +102,9 @@ impl Value {
                 extra,
             } => Ok(Value::Model {
                 cls: cls.share(alloc)?,
-                fields: copy_named(alloc, fields.as_slice())?,
-                set: copy_names(alloc, set.as_slice())?,
-                extra: copy_named(alloc, extra.as_slice())?,
+                fields: copy_named(alloc, fields)?,
+                set: copy_names(alloc, set)?,
+                extra: copy_named(alloc, extra)?,
             }),
             Value::Root { cls, value } => Ok(Value::Root {
                 cls: cls.share(alloc)?,

@@ -5,7 +5,9 @@ mod copying;
 mod laws;
 mod location;
 mod making;
+mod member_row;
 mod merging;
+mod parts;
 mod plain;
 mod row;
 mod tree;
@@ -13,6 +15,7 @@ mod value;
 
 pub use laws::merging_keeps_first_places_and_last_values;
 pub use location::{Loc, Step};
+pub use member_row::MemberRow;
 pub use plain::plain_value;
 pub use row::Row;
 pub use tree::{Members, Tree, Trees};

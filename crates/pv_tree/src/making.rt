@@ -1,8 +1,9 @@
 //! How trees are made.
 
 ghost use Rattle.std.specs.Prelude.{◌≡◌, IfOk};
-ghost use Rattle.pv_tree.specs.Merging.{merged};
+ghost use Rattle.pv_tree.specs.Merging.{object_of};
 
+use crate::member_row::MemberRow;
 use crate::merging::merge;
 use crate::row::Row;
 use crate::tree::{Members, Tree, Trees};
@@ -16,7 +17,7 @@ fn share_trees(alloc: Global, items: &Trees) -> Result<Trees, Memory>
     if let Some(row) = items.try_share() {
         return Ok(row);
     }
-    let mut all = Vec::new(alloc);
+    let mut all = Vec::with_capacity(alloc, items.len())?;
     for tree in items.as_slice() {
         all.push(tree.share(alloc)?)?;
     }
@@ -30,13 +31,21 @@ fn share_members(alloc: Global, members: &Members) -> Result<Members, Memory>
     if let Some(row) = members.try_share() {
         return Ok(row);
     }
-    let mut all = Vec::new(alloc);
+    let mut all = Vec::with_capacity(alloc, members.len())?;
     for (name, value) in members.as_slice() {
         let name = name.share(alloc)?;
         let value = value.share(alloc)?;
         all.push((name, value))?;
     }
-    Row::from_vec(alloc, all)
+    MemberRow::from_vec(alloc, all)
+}
+
+#[tactic(auto, using(crate::proofs::Told::merged_are))]
+fn merge_members(alloc: Global, members: Vec<(Text, Tree)>) -> Result<Members, Memory>
+    ensures { IfOk result (λ all. all ≡ object_of members.items) }
+{
+    let members = merge(alloc, members)?;
+    MemberRow::from_vec(alloc, members)
 }
 
 impl Tree {
@@ -48,9 +57,9 @@ impl Tree {
 
     /// Of members with one name the first place and the last value are kept.
     pub fn object(alloc: Global, members: Vec<(Text, Tree)>) -> Result<Tree, Memory>
-        ensures { IfOk result (λ t. t ≡ Tree.Object (merged members.items)) }
+        ensures { IfOk result (λ t. t ≡ Tree.Object (object_of members.items)) }
     {
-        Ok(Tree::Object(Row::from_vec(alloc, merge(alloc, members)?)?))
+        Ok(Tree::Object(merge_members(alloc, members)?))
     }
 
     /// An equal tree, one more owner of what it holds. Where no further owner can be counted, it is a copy.

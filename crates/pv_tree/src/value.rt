@@ -1,13 +1,16 @@
+use crate::row::Row;
 use pv_number::Lexeme;
 use pv_text::{Bytes, Text};
 use sqlite_items::{Boxed, Items};
 
+/// The items of a list, a tuple, a set or a frozenset.
 pub type Values = Items<Value>;
 
-pub type Names = Items<Text>;
+/// Names, in order. They take one word, so that a value stays small.
+pub type Names = Row<Text>;
 
-/// Pairs of a name and a value, in order.
-pub type Named = Items<(Text, Value)>;
+/// Pairs of a name and a value, in order. They take one word, so that a value stays small.
+pub type Named = Row<(Text, Value)>;
 
 /// Pairs of a key and a value, in order.
 pub type Entries = Items<(Value, Value)>;
@@ -58,3 +61,5 @@ pub enum Value {
         value: Boxed<Value>,
     },
 }
+
+const _: () = prove!(size_of::<Value>() == 48);
