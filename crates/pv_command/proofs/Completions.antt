@@ -4,6 +4,7 @@ use Rattle.std.specs.Prelude.{Some, None, Ok}
 use Rattle.pv_tree.specs.declared.Tree.{Tree}
 use Rattle.pv_tree.specs.declared.Tree.TheVariants as tree
 use Rattle.pv_json_grammar.specs.Reading.{after, skip}
+use Rattle.pv_json_grammar.specs.Documents.{reading}
 use Rattle.pv_json_grammar.specs.Values.{document, value}
 use Rattle.pv_command.specs.Picks.{Role, pick_of}
 use Rattle.pv_command.specs.Numbers.{number_below}
@@ -78,7 +79,7 @@ options_at f o (a_seed next) is = first_operand f o (next 0) zero_word refl (rw 
 options_at f o (a_count next) is = first_operand f o (next 0) zero_word refl (rw is (count_zero next)) (operands_complete (next 0))
 
 pub true_is_pick : pick_of (codes "true") ≡ Some (tree.Bool true)
-unfolding pick_of document value after skip
+unfolding pick_of reading document value after skip
 true_is_pick = ap (λ (r : Role). cond r.is_pick (Some (tree.Bool true)) None) (role_bool true)
 
 pick_complete : (f : Form) (next : Tree → Options) → Completes (options_from f (next (tree.Bool true))) → Completes (a_pick f next)
