@@ -3,8 +3,8 @@ use Rattle.std.proofs.Common.{◌≡◌, ℕ, zero, suc, ◌-◌, ◌<◌, ◌�
 use Rattle.std.specs.Prelude.{Result}
 use Rattle.pv_tree.specs.declared.Tree.{Tree}
 use Rattle.pv_json_grammar.specs.Values.{document}
-use Rattle.pv_json_grammar.specs.Documents.{Document, whole, bad, ends_early, stopped, by_reading, reading}
-use Rattle.pv_json_grammar.specs.Spells.{SpellsScalar, SpellsDocument}
+use Rattle.pv_json_grammar.specs.Documents.{whole, bad, ends_early, by_reading, reading}
+use Rattle.pv_json_grammar.specs.Spells.{SpellsDocument}
 use Rattle.pv_json_grammar.proofs.ValueSound.{document_sound}
 use Rattle.pv_json_grammar.proofs.ValueComplete.{document_complete}
 use Rattle.pv_json_grammar.proofs.Left.{document_left}
