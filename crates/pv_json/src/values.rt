@@ -86,7 +86,7 @@ fn array<'a>(alloc: Global, nesting: usize, s: &Rest<'a>) -> Result<(Tree, Rest<
 
 /// One item or more, the closing bracket, and what follows it.
 #[cycle(value)]
-#[tactic(auto, using(crate::proofs::Steps::items_step), unfolding(pv_json_grammar::specs::Values::items))]
+#[tactic(auto, using(crate::proofs::Steps::several_step), unfolding(pv_json_grammar::specs::Values::several))]
 fn items<'a>(alloc: Global, nesting: usize, s: &Rest<'a>) -> Result<(Tree, Rest<'a>), ReadError>
     ensures { Gives (λ x. (x.0, x.1)) result (spec.items (spec.value nesting) (length s.now) [] s.now) }
 {
@@ -143,7 +143,7 @@ fn object<'a>(alloc: Global, nesting: usize, s: &Rest<'a>) -> Result<(Tree, Rest
 
 /// One member or more, the closing brace, and what follows it.
 #[cycle(value)]
-#[tactic(auto, using(crate::proofs::Steps::members_step), unfolding(pv_json_grammar::specs::Values::members))]
+#[tactic(auto, using(crate::proofs::Steps::several_step), unfolding(pv_json_grammar::specs::Values::several))]
 fn members<'a>(alloc: Global, nesting: usize, s: &Rest<'a>) -> Result<(Tree, Rest<'a>), ReadError>
     ensures { Gives (λ x. (x.0, x.1)) result (spec.members (spec.value nesting) (length s.now) [] s.now) }
 {
