@@ -1,5 +1,5 @@
-ghost use Rattle.std.specs.Prelude.{◌≡◌, length, IfOk, IfErr};
-ghost use Rattle.pv_json_grammar.specs.Values as spec;
+ghost use Rattle.std.specs.Prelude.{◌≡◌, IfOk, IfErr};
+ghost use Rattle.pv_json_grammar.specs.Documents.{whole, reading};
 ghost use Rattle.pv_json_grammar.specs.Spells.{SpellsDocument};
 ghost use Rattle.pv_json.specs.Refuses.{IsWithoutTree, Refuses};
 
@@ -15,8 +15,8 @@ pub const NESTING: usize = 128;
 
 /// The tree that is read of the whole input, or where reading fails.
 fn read_whole(alloc: Global, input: &[u8]) -> Result<Tree, ReadFault>
-    ensures tree { IfOk result (λ t. spec.document NESTING input.now ≡ Ok t) }
-    ensures fault { IfErr result (λ e. Refuses e (spec.document NESTING input.now) (length input.now)) }
+    ensures tree { IfOk result (λ t. reading NESTING input.now ≡ whole t) }
+    ensures fault { IfErr result (λ e. Refuses e (reading NESTING input.now)) }
 {
     let block = Block::from_slice(alloc, input)?;
     match document(alloc, NESTING, &Rest::new(&block)) {
@@ -30,17 +30,17 @@ fn read_whole(alloc: Global, input: &[u8]) -> Result<Tree, ReadFault>
 }
 
 /// The tree that the whole input spells (RFC 8259, in UTF-8), of which at most `NESTING` containers nest.
-/// The texts and numbers of the tree are pieces of one copy of the input, which lives as long as one of
-/// them. Time is linear in the input. An input of 4 GiB or more is want of memory. The answer names the place of the first byte that fits nowhere, by the
-/// reading of values in order.
+/// The texts and numbers of the tree are pieces of one copy of the input, which lives as long as one
+/// of them. Time is linear in the input. An input of 4 GiB or more is want of memory. The answer names
+/// the place of the first byte that fits nowhere, by the reading of values in order.
 pub fn read(alloc: Global, input: &[u8]) -> Result<Tree, ReadFault>
     // A tree comes exactly where the grammar has one.
     ensures spelled { IfOk result (λ t. SpellsDocument NESTING input.now t) }
     ensures unspelled { IfErr result (λ e. IsWithoutTree e NESTING input.now) }
 
     // Which tree, and which place.
-    ensures tree { IfOk result (λ t. spec.document NESTING input.now ≡ Ok t) }
-    ensures fault { IfErr result (λ e. Refuses e (spec.document NESTING input.now) (length input.now)) }
+    ensures tree { IfOk result (λ t. reading NESTING input.now ≡ whole t) }
+    ensures fault { IfErr result (λ e. Refuses e (reading NESTING input.now)) }
 {
     read_whole(alloc, input)
 }

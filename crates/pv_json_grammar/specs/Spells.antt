@@ -3,7 +3,7 @@ use Rattle.std.specs.Prelude.{◌≡◌, ℕ, zero, suc, true, false, IsTrue, Li
 use Rattle.pv_number.specs.Grammar.{IsNumber}
 use Rattle.pv_tree.specs.declared.Tree.{Tree}
 use Rattle.pv_tree.specs.declared.Tree.TheVariants as tree
-use Rattle.pv_tree.specs.Merging.{merged}
+use Rattle.pv_tree.specs.Merging.{object_of}
 use Rattle.pv_json_grammar.specs.Reading.{is_blank}
 use Rattle.pv_json_grammar.specs.SpelledStrings.{SpellsString}
 
@@ -62,7 +62,7 @@ module _ (S : List ℕ → Tree → Type 0) where
     spells_scalar : SpellsScalar bs t → SpellsValue bs t
     spells_array : (inside : List ℕ) (items : List Tree) → bs ≡ 91 ∷ inside ++ 93 ∷ [] → Enclosed S inside items → t ≡ tree.Array items → SpellsValue bs t
     spells_object : (inside : List ℕ) (members : List (List ℕ × Tree)) → bs ≡ 123 ∷ inside ++ 125 ∷ [] → Enclosed SpellsMember inside members
-        → t ≡ tree.Object (merged members) → SpellsValue bs t
+        → t ≡ tree.Object (object_of members) → SpellsValue bs t
 
 -- a value in which at most so many containers nest
 unfoldable pub Spells : ℕ → List ℕ → Tree → Type 0

@@ -3,26 +3,42 @@ use Rattle.std.specs.Prelude.{ℕ, zero, suc, ◌+◌, true, false, if◌then◌
 use Rattle.pv_number.specs.Scanning.{◌>>=◌, begins}
 use Rattle.pv_tree.specs.declared.Tree.{Tree}
 use Rattle.pv_tree.specs.declared.Tree.TheVariants as tree
-use Rattle.pv_tree.specs.Merging.{put}
+use Rattle.pv_tree.specs.Merging.{object_of}
 use Rattle.pv_json_grammar.specs.Reading.{Reads, past, after, skip, number}
 use Rattle.pv_json_grammar.specs.Strings.{string}
 
+-- Several things with commas between them, up to a closing byte. Of them a tree is made.
+module _ {A : Type 0} (inner : List ℕ → Reads A) (close : ℕ) (finish : List A → Tree) where
+  -- behind one of them and white space
+  abbrev pub behind : (List A → List ℕ → Reads Tree) → List A → List ℕ → Reads Tree
+  behind more all [] = Err 0
+  behind more all (b ∷ bs) =
+      if b == 44 then more all bs
+      else (if b == close then Ok (finish all, bs) else Err (length bs + 1))
+
+  -- Those from here on, behind those that were read. Each takes a byte, so no more come than there
+  -- are bytes.
+  unfoldable pub several : ℕ → List A → List ℕ → Reads Tree
+  several zero all bs = Err (length bs)
+  several (suc k) all bs = inner bs >>= λ x. behind (several k) (all ++ x.0 ∷ []) (skip x.1)
+
+  -- behind an opening byte and white space
+  abbrev pub group : List ℕ → Reads Tree
+  group bs =
+      if begins close bs then Ok (finish [], drop 1 bs) else several (length bs) [] bs
+
+-- the object of members as they were read
+abbrev pub object_tree : List (List ℕ × Tree) → Tree
+object_tree ms = tree.Object (object_of ms)
+
 module _ (inner : List ℕ → Reads Tree) where
-  abbrev pub after_item : (List Tree → List ℕ → Reads Tree) → List Tree → List ℕ → Reads Tree
-  after_item more all [] = Err 0
-  after_item more all (b ∷ bs) = if b == 44 then more all bs else (if b == 93 then Ok (tree.Array all, bs) else Err (length bs + 1))
-
-  -- The items from here on, behind those that were read. Each takes a byte, so no more come than there are bytes.
-  unfoldable pub items : ℕ → List Tree → List ℕ → Reads Tree
-  items zero all bs = Err (length bs)
-  items (suc k) all bs = inner bs >>= λ x. after_item (items k) (all ++ x.0 ∷ []) (skip x.1)
-
-  abbrev pub array_from : List ℕ → Reads Tree
-  array_from bs = if begins 93 bs then Ok (tree.Array [], drop 1 bs) else items (length bs) [] bs
+  -- the items from here on, behind those that were read
+  abbrev pub items : ℕ → List Tree → List ℕ → Reads Tree
+  items = several inner 93 tree.Array
 
   -- behind the opening bracket
   unfoldable pub array : List ℕ → Reads Tree
-  array bs = array_from (skip bs)
+  array bs = group inner 93 tree.Array (skip bs)
 
   -- a name, its colon and its value
   unfoldable pub member : List ℕ → Reads (List ℕ × Tree)
@@ -32,21 +48,13 @@ module _ (inner : List ℕ → Reads Tree) where
       past 58 (skip name.1) >>= λ r.
       inner r >>= λ v. Ok ((name.0, v.0), v.1)
 
-  abbrev pub after_member : (List (List ℕ × Tree) → List ℕ → Reads Tree) → List (List ℕ × Tree) → List ℕ → Reads Tree
-  after_member more all [] = Err 0
-  after_member more all (b ∷ bs) = if b == 44 then more all bs else (if b == 125 then Ok (tree.Object all, bs) else Err (length bs + 1))
-
-  -- the members from here on, behind those that were read and merged
-  unfoldable pub members : ℕ → List (List ℕ × Tree) → List ℕ → Reads Tree
-  members zero all bs = Err (length bs)
-  members (suc k) all bs = member bs >>= λ m. after_member (members k) (put all (m.0).0 (m.0).1) (skip m.1)
-
-  abbrev pub object_from : List ℕ → Reads Tree
-  object_from bs = if begins 125 bs then Ok (tree.Object [], drop 1 bs) else members (length bs) [] bs
+  -- the members from here on, behind those that were read
+  abbrev pub members : ℕ → List (List ℕ × Tree) → List ℕ → Reads Tree
+  members = several member 125 object_tree
 
   -- behind the opening brace
   unfoldable pub object : List ℕ → Reads Tree
-  object bs = object_from (skip bs)
+  object bs = group member 125 object_tree (skip bs)
 
 -- a word and the tree that it stands for
 abbrev pub word : List ℕ → Tree → List ℕ → Reads Tree
@@ -67,8 +75,10 @@ value_by arrays objects (b ∷ bs) =
 -- a value in which at most so many containers nest
 unfoldable pub value : ℕ → List ℕ → Reads Tree
 value zero bs = value_by (λ all. Err (length all)) (λ all. Err (length all)) (skip bs)
-value (suc n) bs = value_by (λ all. array (value n) (drop 1 all)) (λ all. object (value n) (drop 1 all)) (skip bs)
+value (suc n) bs =
+    value_by (λ all. array (value n) (drop 1 all)) (λ all. object (value n) (drop 1 all)) (skip bs)
 
 -- a value with white space round it and nothing else
 unfoldable pub document : ℕ → List ℕ → Result Tree ℕ
-document n bs = value n bs >>= λ x. (if length (skip x.1) == 0 then Ok x.0 else Err (length (skip x.1)))
+document n bs =
+    value n bs >>= λ x. (if length (skip x.1) == 0 then Ok x.0 else Err (length (skip x.1)))

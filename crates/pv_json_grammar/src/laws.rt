@@ -1,11 +1,11 @@
 //! What holds of the grammar and of reading. These functions do nothing: their contracts are the laws.
 
-ghost use Rattle.std.specs.Prelude.{◌≡◌, ◌≢◌, ◌≤◌, ◌++◌, ◌∷◌, ℕ, List, Ok, All, IsUtf8};
+ghost use Rattle.std.specs.Prelude.{◌≡◌, ◌≢◌, ◌≤◌, ◌<◌, ◌++◌, ◌∷◌, ℕ, List, length, Ok, All, IsUtf8};
 ghost use Rattle.pv_tree.specs.declared.Tree.{Tree};
 ghost use Rattle.pv_notation.specs.Strings.{quoted};
 ghost use Rattle.pv_notation.specs.Compact.{compact};
 ghost use Rattle.pv_json_grammar.specs.Strings.{string};
-ghost use Rattle.pv_json_grammar.specs.Values.{document};
+ghost use Rattle.pv_json_grammar.specs.Documents.{whole, bad, reading};
 ghost use Rattle.pv_json_grammar.specs.SpelledStrings.{SpellsString};
 ghost use Rattle.pv_json_grammar.specs.Spells.{SpellsDocument};
 ghost use Rattle.pv_json_grammar.specs.DocumentTrees.{IsDocumentTree};
@@ -23,12 +23,17 @@ pub fn strings_are_spelled()
 
 /// What is read as a document is spelled by all of the bytes.
 pub fn documents_are_spelled()
-    ensures { (n : ℕ) (bs : List ℕ) (t : Tree) → document n bs ≡ Ok t → SpellsDocument n bs t }
+    ensures { (n : ℕ) (bs : List ℕ) (t : Tree) → reading n bs ≡ whole t → SpellsDocument n bs t }
 {}
 
 /// What spells a document is read as that document.
 pub fn documents_are_read()
-    ensures { (n : ℕ) (bs : List ℕ) (t : Tree) → SpellsDocument n bs t → document n bs ≡ Ok t }
+    ensures { (n : ℕ) (bs : List ℕ) (t : Tree) → SpellsDocument n bs t → reading n bs ≡ whole t }
+{}
+
+/// A byte that fits nowhere is one of the input.
+pub fn faults_have_places()
+    ensures { (n : ℕ) (bs : List ℕ) (at : ℕ) → reading n bs ≡ bad at → at < length bs }
 {}
 
 /// No bytes spell two trees.
@@ -53,7 +58,7 @@ pub fn documents_are_trees()
 
 /// The compact JSON of a tree that was read is read as that tree.
 pub fn compact_round_trip()
-    ensures { (n : ℕ) (bs : List ℕ) (t : Tree) → document n bs ≡ Ok t → document n (compact t) ≡ Ok t }
+    ensures { (n : ℕ) (bs : List ℕ) (t : Tree) → reading n bs ≡ whole t → reading n (compact t) ≡ whole t }
 {}
 
 /// The compact JSON of a tree is one line, and holds no control character.

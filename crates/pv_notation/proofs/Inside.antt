@@ -67,7 +67,7 @@ AllInTree P (Tree-F.Bool b) = Unit {0}
 AllInTree P (Tree-F.Num lexeme) = Unit {0}
 AllInTree P (Tree-F.Str text) = Unit {0}
 AllInTree P (Tree-F.Array ts) = AllByRecursion P ts
-AllInTree P (Tree-F.Object ms) = AllByRecursion (λ m. P m.1) ms
+AllInTree P (Tree-F.Object d) = AllByRecursion (λ m. P m.1) d.members
 
 pub in_tree_held : (P : Tree → Type 0) (y : Tree-F ((t : Tree) × P t)) → AllInTree P (map-Tree ((t : Tree) × P t) Tree (λ e. e.0) y)
 in_tree_held P Tree-F.Null = tt
@@ -75,7 +75,7 @@ in_tree_held P (Tree-F.Bool b) = tt
 in_tree_held P (Tree-F.Num lexeme) = tt
 in_tree_held P (Tree-F.Str text) = tt
 in_tree_held P (Tree-F.Array ts) = all_held P ts
-in_tree_held P (Tree-F.Object ms) = named_held P ms
+in_tree_held P (Tree-F.Object d) = named_held P d.members
 
 pub by_tree_levels : (P : Tree → Type 0) → ((x : Tree-F Tree) → AllInTree P x → P (roll-Tree x)) → (t : Tree) → P t
 by_tree_levels P step = ind-Tree P (λ x y is. step x (subst (AllInTree P) is (in_tree_held P y)))

@@ -75,9 +75,9 @@ level_line (Tree-F.Bool false) p h n = (omega arith, (omega arith, (omega arith,
 level_line (Tree-F.Num lexeme) p h n = number_line lexeme h
 level_line (Tree-F.Str text) p h n = quoted_line text
 level_line (Tree-F.Array ts) p h n = list_text_line (map compact ts) (trees_lines ts p n)
-level_line (Tree-F.Object ms) p h n =
-    let all : AreLines (map member_text (map (λ (m : List ℕ × Tree). (m.0, compact m.1)) ms)) = members_lines ms p n in
-    (omega arith, line_append (joined (map member_text (map (λ (m : List ℕ × Tree). (m.0, compact m.1)) ms))) (125 ∷ []) (joined_line _ all) (omega arith, tt))
+level_line (Tree-F.Object d) p h n =
+    let all : AreLines (map member_text (map (λ (m : List ℕ × Tree). (m.0, compact m.1)) d.members)) = members_lines d.members p n in
+    (omega arith, line_append (joined (map member_text (map (λ (m : List ℕ × Tree). (m.0, compact m.1)) d.members))) (125 ∷ []) (joined_line _ all) (omega arith, tt))
 
 number_here : (x : Tree-F Tree) → HasNumbers (roll-Tree x) → NumberAt x
 number_here x h = subst NumberAt (out-roll-Tree x) (every_here-Tree NumberAt (roll-Tree x) h)

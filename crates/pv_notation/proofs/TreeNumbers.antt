@@ -2,6 +2,8 @@
 use Rattle.std.proofs.Common.{◌≡◌, ℕ, Bool, List, refl, sym, ap, ◌∙◌, subst, All}
 use Rattle.std.proofs.lemmas.List.Elements.{recursion_from_All}
 use Rattle.pv_number.specs.Grammar.{IsNumber}
+use Rattle.pv_tree.specs.Names.{Distinct, HasDistinctNames, same_distinct}
+use Rattle.pv_tree.specs.formers.member_row.MemberRow.{before}
 use Rattle.pv_tree.specs.declared.Tree.{Tree, map-Tree}
 use Rattle.pv_tree.specs.declared.Tree.TheVariants as tree
 use Rattle.pv_tree.specs.declared.Tree.TheVariants.{rolls-Null, rolls-Bool, rolls-Num, rolls-Str, rolls-Array, rolls-Object}
@@ -21,7 +23,10 @@ inside_hold (Tree-F.Bool b) h = (Tree-F.Bool b, refl)
 inside_hold (Tree-F.Num lexeme) h = (Tree-F.Num lexeme, refl)
 inside_hold (Tree-F.Str text) h = (Tree-F.Str text, refl)
 inside_hold (Tree-F.Array ts) h = let k = all_hold HasNumbers ts h in (Tree-F.Array k.0, ap Tree-F.Array k.1)
-inside_hold (Tree-F.Object ms) h = let k = named_hold HasNumbers ms h in (Tree-F.Object k.0, ap Tree-F.Object k.1)
+inside_hold (Tree-F.Object d) h =
+    let k = named_hold HasNumbers d.members h in
+    let o : Distinct (Held HasNumbers) = record { members = k.0; distinct = before (λ e. e.0) k.0 (subst HasDistinctNames (sym k.1) d.distinct) } in
+    (Tree-F.Object o, ap Tree-F.Object (same_distinct _ d k.1))
 
 numbers_of : (t u : Tree) (x : Tree-F Tree) → roll-Tree x ≡ u → t ≡ u → AllInTree HasNumbers x → NumberAt x → HasNumbers t
 numbers_of t u x r e h i = let k = inside_hold x h in subst HasNumbers (r ∙ sym e) (every_made-Tree NumberAt x k.0 k.1 i)
@@ -41,7 +46,7 @@ numbers_str t text e = numbers_of t (tree.Str text) (Tree-F.Str text) (rolls-Str
 pub numbers_array : (t : Tree) (ts : List Tree) → t ≡ tree.Array ts → All HasNumbers ts → HasNumbers t
 numbers_array t ts e h = numbers_of t (tree.Array ts) (Tree-F.Array ts) (rolls-Array ts) e (recursion_from_All HasNumbers ts h) tt
 
-pub numbers_object : (t : Tree) (ms : List (List ℕ × Tree)) → t ≡ tree.Object ms → All (λ m. HasNumbers m.1) ms → HasNumbers t
-numbers_object t ms e h = numbers_of t (tree.Object ms) (Tree-F.Object ms) (rolls-Object ms) e (recursion_from_All (λ (m : List ℕ × Tree). HasNumbers m.1) ms h) tt
+pub numbers_object : (t : Tree) (d : Distinct Tree) → t ≡ tree.Object d → All (λ m. HasNumbers m.1) d.members → HasNumbers t
+numbers_object t d e h = numbers_of t (tree.Object d) (Tree-F.Object d) (rolls-Object d) e (recursion_from_All (λ (m : List ℕ × Tree). HasNumbers m.1) d.members h) tt
 
 pub ruleset tree_numbers = (numbers_null, numbers_bool, numbers_str, numbers_array, numbers_object)

@@ -16,10 +16,12 @@ compact_step (Tree-F.Bool b) = if b then codes "true" else codes "false"
 compact_step (Tree-F.Num lexeme) = lexeme
 compact_step (Tree-F.Str text) = quoted text
 compact_step (Tree-F.Array ts) = list_text ts
-compact_step (Tree-F.Object ms) = 123 ∷ joined (map member_text ms) ++ 125 ∷ []
+compact_step (Tree-F.Object d) = 123 ∷ joined (map member_text d.members) ++ 125 ∷ []
 
+-- the text of a tree
 abbrev pub compact : Tree → List ℕ
 compact = fold-Tree (List ℕ) compact_step
 
+-- the text of a member
 abbrev pub compact_member : List ℕ × Tree → List ℕ
 compact_member m = quoted m.0 ++ 58 ∷ compact m.1

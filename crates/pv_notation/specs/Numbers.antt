@@ -9,18 +9,20 @@ use Rattle.pv_tree.specs.declared.Value.TheOpen.{Value-F}
 use Rattle.pv_tree.specs.declared.Value.TheFolds.{every-Value}
 use Rattle.pv_number.specs.Grammar.{IsNumber}
 
+-- a level that is a lexeme is a JSON number
 abbrev pub NumberAt : Tree-F Tree → Type 0
 NumberAt Tree-F.Null = ⊤
 NumberAt (Tree-F.Bool b) = ⊤
 NumberAt (Tree-F.Num lexeme) = IsNumber lexeme
 NumberAt (Tree-F.Str text) = ⊤
 NumberAt (Tree-F.Array ts) = ⊤
-NumberAt (Tree-F.Object ms) = ⊤
+NumberAt (Tree-F.Object d) = ⊤
 
 -- each lexeme is a JSON number
 abbrev pub HasNumbers : Tree → Type 0
 HasNumbers = every-Tree NumberAt
 
+-- a level that is a whole number has 128 bits
 abbrev pub IntAt : {X : Type 0} → Value-F X → Type 0
 IntAt Value-F.None = ⊤
 IntAt (Value-F.Bool b) = ⊤

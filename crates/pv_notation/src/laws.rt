@@ -7,7 +7,7 @@ ghost use Rattle.pv_notation.specs.Notation.{notation};
 ghost use Rattle.pv_notation.specs.Numbers.{HasNumbers, IsSound};
 
 use pv_text::Text;
-use pv_tree::{Step, Tree, Value};
+use pv_tree::{Members, Step, Tree, Value};
 
 /// No text has a line feed, the byte 10.
 pub fn notations_are_lines()
@@ -16,7 +16,8 @@ pub fn notations_are_lines()
     ensures trees { (t : Tree) → HasNumbers t → All (λ b. b ≢ 10) (compact t) }
 {}
 
-/// Two values of one notation are one value. The definition of the decimal digits stops after 64 of them, so whole numbers are those of `i128`.
+/// Two values of one notation are one value. The definition of the decimal digits stops after 64 of
+/// them, so whole numbers are those of `i128`.
 pub fn notations_differ()
     ensures { (v w : Value) → IsSound v → IsSound w → notation v ≡ notation w → v ≡ w }
 {}
@@ -89,10 +90,10 @@ fn list_has_numbers(trees: &[Tree])
 }
 
 #[cycle(numbers)]
-fn members_have_numbers(members: &[(Text, Tree)])
-    ensures { All (λ m. HasNumbers m.1) members.now }
+fn members_have_numbers(members: &Members)
+    ensures { All (λ m. HasNumbers m.1) members.now.members }
 {
-    for (_, tree) in members {
+    for (_, tree) in members.as_slice() {
         trees_have_numbers(tree);
     }
 }
@@ -111,6 +112,6 @@ pub fn trees_have_numbers(tree: &Tree)
         }
         Tree::Str(_) => {}
         Tree::Array(trees) => list_has_numbers(trees.as_slice()),
-        Tree::Object(members) => members_have_numbers(members.as_slice()),
+        Tree::Object(members) => members_have_numbers(members),
     }
 }

@@ -7,7 +7,7 @@ ghost use Rattle.pv_notation.specs.Fronts.{IsFront};
 
 use crate::strings::write_quoted;
 use pv_text::{ByteBuf, Memory, Text};
-use pv_tree::Tree;
+use pv_tree::{Members, Tree};
 
 #[cycle(tree)]
 #[tactic(auto, using(crate::proofs::Fronts::fronts))]
@@ -40,11 +40,11 @@ fn write_items(items: &[Tree], out: &mut ByteBuf) -> Result<(), Memory>
 
 #[cycle(tree)]
 #[tactic(auto, using(crate::proofs::Fronts::fronts))]
-fn write_members(members: &[(Text, Tree)], out: &mut ByteBuf) -> Result<(), Memory>
-    ensures ok { OnOk result (out.new ≡ out.old ++ joined (map compact_member members.now)) }
+fn write_members(members: &Members, out: &mut ByteBuf) -> Result<(), Memory>
+    ensures ok { OnOk result (out.new ≡ out.old ++ joined (map compact_member members.now.members)) }
     ensures err { OnErr result (IsFront out.old out.new) }
 {
-    let Some(((name, value), rest)) = members.split_first() else {
+    let Some(((name, value), rest)) = members.as_slice().split_first() else {
         return Ok(());
     };
     write_member(name, value, out)?;
@@ -74,7 +74,7 @@ fn write_part(tree: &Tree, out: &mut ByteBuf) -> Result<(), Memory>
         }
         Tree::Object(members) => {
             out.push(b'{')?;
-            write_members(members.as_slice(), out)?;
+            write_members(members, out)?;
             out.push(b'}')?;
         }
     }

@@ -1,4 +1,4 @@
-use Rattle.std.proofs.Common.{ℕ, List}
+use Rattle.std.proofs.Common.{ℕ, List, All, subst}
 use Rattle.pv_tree.specs.declared.Tree.{Tree}
 use Rattle.pv_notation.specs.Numbers.{HasNumbers}
 use Rattle.pv_notation.proofs.Holding.{one_more, all_of}
@@ -17,10 +17,12 @@ list_has_numbers-returns t c = all_of HasNumbers c.args.trees.now c.loop-tree.tr
 
 pub members_have_numbers-loop-tree-preserved : goal.members_have_numbers-loop-tree-preserved
 members_have_numbers-loop-tree-preserved t c =
-    one_more MemberNumbers c.args.members.now c.loop-tree.tree-index c.loop-tree-item.result c.loop-tree-test.true c.loop-tree-item.is c.trees_have_numbers.ensures c.loop-tree.invariant
+    one_more MemberNumbers c.as_slice-tree-items.result.now c.loop-tree.tree-index c.loop-tree-item.result c.loop-tree-test.true c.loop-tree-item.is c.trees_have_numbers.ensures c.loop-tree.invariant
 
 pub members_have_numbers-returns : goal.members_have_numbers-returns
-members_have_numbers-returns t c = all_of MemberNumbers c.args.members.now c.loop-tree.tree-index c.loop-tree-test.false c.loop-tree.invariant
+members_have_numbers-returns t c =
+    subst (All MemberNumbers) c.as_slice-tree-items.ensures.value
+    (all_of MemberNumbers c.as_slice-tree-items.result.now c.loop-tree.tree-index c.loop-tree-test.false c.loop-tree.invariant)
 
 pub trees_have_numbers-returns-in-Num : goal.trees_have_numbers-returns-in-Num
 trees_have_numbers-returns-in-Num t c =

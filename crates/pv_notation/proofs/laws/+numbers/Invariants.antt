@@ -6,4 +6,4 @@ abbrev pub invariant-list_has_numbers-loop-tree : goal.invariant-list_has_number
 invariant-list_has_numbers-loop-tree l = All HasNumbers (take l.tree-index l.trees)
 
 abbrev pub invariant-members_have_numbers-loop-tree : goal.invariant-members_have_numbers-loop-tree
-invariant-members_have_numbers-loop-tree l = All (λ m. HasNumbers m.1) (take l.tree-index l.members)
+invariant-members_have_numbers-loop-tree l = All (λ m. HasNumbers m.1) (take l.tree-index l.tree-items)

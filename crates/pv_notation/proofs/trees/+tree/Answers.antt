@@ -10,7 +10,7 @@ write_items-returns-clause-ok t c =
 
 pub write_members-returns-clause-ok : goal.write_members-returns-clause-ok
 write_members-returns-clause-ok t c =
-    all_joined compact_member _ _ _ c.args.members.now c.in-Some.rest.now c.in-Some.field-0-0.now c.loop-name.name-index (search rules) (search rules) c.loop-name.invariant c.loop-name-test.false
+    all_joined compact_member _ _ _ c.args.members.now.members c.in-Some.rest.now c.in-Some.field-0-0.now c.loop-name.name-index (search rules) (search rules) c.loop-name.invariant c.loop-name-test.false
 
 pub write_part-returns-in_ok-push-in-Object-2-clause-ok :
     goal.write_part-returns-in_ok-push-in-Object-2-clause-ok
