@@ -4,3 +4,4 @@ pub mod Under
 pub mod Table
 pub mod Wordings
 pub mod Errors
+pub mod Single

@@ -1,6 +1,6 @@
 //! A step put in front of the locations of errors, of all or of none.
 
-ghost use Rattle.std.specs.Prelude.{◌≡◌, ◌≤◌, ◌++◌, length, map, take, drop, IfOk, OnOk, OnErr};
+ghost use Rattle.std.specs.Prelude.{◌≡◌, ◌≤◌, ◌++◌, length, map, take, drop, OnOk, OnErr};
 ghost use Rattle.pv_fault.specs.Under.{under, without_first};
 
 use crate::faults::LineError;
@@ -8,20 +8,11 @@ use pv_text::Memory;
 use pv_tree::Step;
 use std::alloc::Global;
 
-fn share_step(alloc: Global, step: &Step) -> Result<Step, Memory>
-    ensures { IfOk result (λ s. s ≡ step.now) }
-{
-    match step {
-        Step::Name(name) => Ok(Step::Name(name.share(alloc)?)),
-        Step::Index(place) => Ok(Step::Index(*place)),
-    }
-}
-
 fn put_one_under(alloc: Global, error: &mut LineError, step: &Step) -> Result<(), Memory>
     ensures ok { OnOk result (error.new ≡ under step.now error.old) }
     ensures err { OnErr result (error.new ≡ error.old) }
 {
-    error.loc.push_front(share_step(alloc, step)?)
+    error.loc.push_front(step.copy(alloc)?)
 }
 
 /// How many of the errors, from the first on, were put under the step before memory ran out.

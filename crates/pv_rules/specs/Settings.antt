@@ -3,6 +3,7 @@ use Rattle.std.specs.Prelude.{true, false, None}
 use Rattle.pv_rules.specs.declared.settings.Settings.{Settings}
 use Rattle.pv_rules.specs.declared.settings.ExtraBehavior.TheVariants.{Ignore}
 
+-- the settings of a node that no model and no typed dict configures
 abbrev pub plain : Settings
 plain = record {
   title = None;

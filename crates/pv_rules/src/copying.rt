@@ -6,7 +6,7 @@ use crate::literal::{EnumMember, Literal};
 use crate::scalar_rule::{EnumRule, ScalarRule, StrRule, UrlRule};
 use crate::settings::Settings;
 use pv_text::{Memory, Text};
-use pv_tree::Names;
+use pv_tree::{Names, Row};
 use sqlite_items::Items;
 use std::alloc::Global;
 
@@ -32,33 +32,33 @@ fn copy_optional_names(alloc: Global, names: &Option<Names>) -> Result<Option<Na
 pub fn copy_names(alloc: Global, names: &[Text]) -> Result<Names, Memory>
     ensures { IfOk result (λ copied. copied ≡ names.now) }
 {
-    let mut copied = Items::new(alloc);
+    let mut copied = Vec::with_capacity(alloc, names.len())?;
     for name in names {
         copied.push(name.share(alloc)?)?;
     }
-    Ok(copied)
+    Row::from_vec(alloc, copied)
 }
 
 /// An equal list of values.
 pub fn copy_literals(alloc: Global, literals: &[Literal]) -> Result<Items<Literal>, Memory>
     ensures { IfOk result (λ copied. copied ≡ literals.now) }
 {
-    let mut copied = Items::new(alloc);
+    let mut copied = Vec::with_capacity(alloc, literals.len())?;
     for literal in literals {
         copied.push(literal.copy(alloc)?)?;
     }
-    Ok(copied)
+    Ok(Items::from_vec(copied))
 }
 
 /// An equal list of members.
 pub fn copy_members(alloc: Global, members: &[EnumMember]) -> Result<Items<EnumMember>, Memory>
     ensures { IfOk result (λ copied. copied ≡ members.now) }
 {
-    let mut copied = Items::new(alloc);
+    let mut copied = Vec::with_capacity(alloc, members.len())?;
     for member in members {
         copied.push(member.copy(alloc)?)?;
     }
-    Ok(copied)
+    Ok(Items::from_vec(copied))
 }
 
 impl Literal {

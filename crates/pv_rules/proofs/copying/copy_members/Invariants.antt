@@ -2,4 +2,4 @@ use Rattle.std.proofs.Common.{◌≡◌, take}
 use Rattle.pv_rules.proofs.copying.copy_members.Given as goal
 
 abbrev pub invariant-loop-member : goal.invariant-loop-member
-invariant-loop-member l = l.copied ≡ take l.member-index l.members
+invariant-loop-member l = l.copied.items ≡ take l.member-index l.members
