@@ -1,6 +1,7 @@
 -- Reading as a function: the value and the bytes after it, or how many bytes are left at the first
 -- that fits nowhere.
-use Rattle.std.specs.Prelude.{ℕ, ◌+◌, ◌==◌, nat_le, Bool, ◌||◌, ◌&&◌, if◌then◌else◌, Result, Ok, Err}
+use Rattle.std.specs.Prelude.{ℕ, ◌+◌, ◌==◌, nat_le, Result, Ok, Err}
+use Rattle.std.specs.Prelude.{Bool, ◌||◌, ◌&&◌, if◌then◌else◌}
 use Rattle.std.specs.Prelude.{List, [], ◌∷◌, ◌++◌, length, take, drop}
 use Rattle.pv_number.specs.Scanning.{◌>>=◌, number_len}
 use Rattle.pv_json_grammar.specs.Bytes.{space, tab, line_feed, carriage_return}

@@ -1,5 +1,7 @@
--- The grammar of strings (RFC 8259, section 7, in UTF-8), apart from the reader: which bytes spell a text.
-use Rattle.std.specs.Prelude.{◌≡◌, ◌≢◌, ℕ, ◌+◌, ◌*◌, ◌<◌, ◌≤◌, ◌⊎◌, List, [], ◌∷◌, ◌++◌, encode_utf8}
+-- The grammar of strings (RFC 8259, section 7, in UTF-8), apart from the reader: which bytes spell
+-- a text.
+use Rattle.std.specs.Prelude.{◌≡◌, ◌≢◌, ℕ, ◌+◌, ◌*◌, ◌<◌, ◌≤◌, ◌⊎◌}
+use Rattle.std.specs.Prelude.{List, [], ◌∷◌, ◌++◌, encode_utf8}
 use Rattle.std.specs.Char.{IsScalar}
 use Rattle.pv_json_grammar.specs.Bytes.{space, quote, backslash, lower_u}
 use Rattle.pv_json_grammar.specs.Bytes.{first_high, first_low, past_surrogates}

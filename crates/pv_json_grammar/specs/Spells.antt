@@ -1,10 +1,12 @@
--- The grammar of JSON documents (RFC 8259, in UTF-8), apart from the reader: which bytes spell which tree.
+-- The grammar of JSON documents (RFC 8259, in UTF-8), apart from the reader: which bytes spell
+-- which tree.
 use Rattle.std.specs.Prelude.{◌≡◌, ℕ, zero, suc, true, false, IsTrue, List, [], ◌∷◌, ◌++◌, codes}
 use Rattle.pv_number.specs.Grammar.{IsNumber}
 use Rattle.pv_tree.specs.declared.Tree.{Tree}
 use Rattle.pv_tree.specs.declared.Tree.TheVariants as tree
 use Rattle.pv_tree.specs.Merging.{object_of}
-use Rattle.pv_json_grammar.specs.Bytes.{comma, colon, open_bracket, close_bracket, open_brace, close_brace}
+use Rattle.pv_json_grammar.specs.Bytes.{comma, colon}
+use Rattle.pv_json_grammar.specs.Bytes.{open_bracket, close_bracket, open_brace, close_brace}
 use Rattle.pv_json_grammar.specs.Reading.{is_blank}
 use Rattle.pv_json_grammar.specs.SpelledStrings.{SpellsString}
 

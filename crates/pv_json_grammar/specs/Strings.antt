@@ -1,8 +1,10 @@
 -- Strings, a unit at a time. What is read are the bytes of the text.
-use Rattle.std.specs.Prelude.{ℕ, zero, suc, ◌+◌, ◌-◌, ◌*◌, ◌==◌, nat_lt, nat_le, Result, Ok, Err, encode_utf8}
+use Rattle.std.specs.Prelude.{ℕ, zero, suc, ◌+◌, ◌-◌, ◌*◌, ◌==◌, nat_lt, nat_le}
+use Rattle.std.specs.Prelude.{Result, Ok, Err, encode_utf8}
 use Rattle.std.specs.Prelude.{Bool, true, false, ◌||◌, ◌&&◌, if◌then◌else◌}
 use Rattle.std.specs.Prelude.{List, [], ◌∷◌, ◌++◌, length, take, drop}
-use Rattle.pv_json_grammar.specs.Bytes.{space, backspace, tab, line_feed, form_feed, carriage_return}
+use Rattle.pv_json_grammar.specs.Bytes.{space, tab, line_feed, carriage_return}
+use Rattle.pv_json_grammar.specs.Bytes.{backspace, form_feed}
 use Rattle.pv_json_grammar.specs.Bytes.{quote, slash, backslash}
 use Rattle.pv_json_grammar.specs.Bytes.{lower_b, lower_f, lower_n, lower_r, lower_t, lower_u}
 use Rattle.pv_json_grammar.specs.Bytes.{first_high, first_low}
