@@ -1,10 +1,10 @@
 -- What an input is as a document, by what reading gives.
-use Rattle.std.proofs.Common.{◌≡◌, ℕ, zero, suc, ◌-◌, ◌<◌, ◌≤◌, List, length, Ok, Err, refl, ap, arith}
+use Rattle.std.proofs.Common.{◌≡◌, ℕ, zero, suc, ◌-◌, ◌<◌, ◌≤◌, List, [], length, Ok, Err, refl, sym, ap, append-nil, arith}
 use Rattle.std.specs.Prelude.{Result}
 use Rattle.pv_tree.specs.declared.Tree.{Tree}
 use Rattle.pv_json_grammar.specs.Values.{document}
 use Rattle.pv_json_grammar.specs.Documents.{whole, bad, ends_early, by_reading, reading}
-use Rattle.pv_json_grammar.specs.Spells.{SpellsDocument}
+use Rattle.pv_json_grammar.specs.Spells.{SpellsScalar, spells_scalar, Spells, SpellsDocument}
 use Rattle.pv_json_grammar.proofs.ValueSound.{document_sound}
 use Rattle.pv_json_grammar.proofs.ValueComplete.{document_complete}
 use Rattle.pv_json_grammar.proofs.Left.{document_left}
@@ -57,3 +57,20 @@ placed_by size (Err (suc left)) at within e =
 pub bad_within : (n : ℕ) (bs : List ℕ) (at : ℕ) → reading n bs ≡ bad at → at < length bs
 unfolding reading
 bad_within n bs at e = placed_by (length bs) (document n bs) at (document_left n bs) e
+
+scalar_spelled : (n : ℕ) (bs : List ℕ) (t : Tree) → SpellsScalar bs t → Spells n bs t
+unfolding Spells
+scalar_spelled zero bs t s = s
+scalar_spelled (suc n) bs t s = spells_scalar s
+
+-- a scalar with no white space round it, as the words of a command have it
+pub scalar_whole : (n : ℕ) (bs : List ℕ) (t : Tree) → SpellsScalar bs t → reading n bs ≡ whole t
+scalar_whole n bs t s = reading_complete n bs t (record {
+  lead = [];
+  text = bs;
+  trail = [];
+  whole = sym (append-nil bs);
+  blank_lead = tt;
+  spells = scalar_spelled n bs t s;
+  blank_trail = tt;
+})

@@ -7,6 +7,7 @@ use Rattle.pv_number.specs.declared.Whole.{Whole}
 use Rattle.pv_number.specs.declared.Whole.TheVariants.{Fits, TooBig, Fraction}
 use Rattle.pv_tree.specs.declared.Tree.{Tree, out-Tree}
 use Rattle.pv_tree.specs.declared.Tree.TheOpen.{Tree-F}
+use Rattle.pv_tree.specs.Parts.{text_at}
 use Rattle.pv_tree.specs.declared.Value.{Value}
 use Rattle.pv_tree.specs.declared.Value.TheVariants as value
 use Rattle.pv_rules.specs.declared.IntRule.{IntRule}
@@ -24,7 +25,7 @@ use Rattle.pv_numeric.proofs.Wholes.{whole_of_answers}
 use Rattle.pv_numeric.proofs.Numerals.{numeral_in}
 use Rattle.pv_scalar.specs.Tests.{Graded, made_into, with_fault, tested, outcome_of}
 use Rattle.pv_scalar.specs.Integers.{whole_int, number_int, text_int, int_at, int_of, int_fault}
-use Rattle.pv_scalar.specs.Texts.{text_at, text_in}
+use Rattle.pv_scalar.specs.Texts.{text_in}
 use Rattle.pv_scalar.specs.Scalars.{int_answer, answer_of, scalar_of}
 use Rattle.pv_scalar.specs.WrittenInts.{IsWrittenInt}
 
@@ -115,7 +116,6 @@ numeral_at (Tree-F.Object ms) text n g is e = absurd cc
 
 pub text_numeral : (r : IntRule) (s : Settings) (t : Tree) (text : List ℕ) (v : Value) (g : Grade) (fields : Option ℕ) → text_in t ≡ Some text → scalar_of (rule.Int r) s false t ≡ Good v g fields →
     (n : ℤ) × IsNumeral (trim text) n × (v ≡ value.Int n) × (g ≡ Lax)
-unfolding text_in
 text_numeral r s t text v g fields is e =
     let found = int_behind r s false t v g fields e in
     let at = numeral_at (out-Tree t) text found.0 g is found.1 in

@@ -2,7 +2,7 @@
 use Rattle.std.specs.Prelude.{ℕ, Bool, true, false, if◌then◌else◌, List, map, ℤ, Option, None, Some, option_and_then, Result, Ok, Err, ⊤}
 use Rattle.pv_tree.specs.Plain.{plain}
 use Rattle.pv_tree.specs.declared.Tree.{Tree, out-Tree}
-use Rattle.pv_tree.specs.declared.Tree.TheOpen.{Tree-F}
+use Rattle.pv_tree.specs.Parts.{null_at}
 use Rattle.pv_tree.specs.declared.Value.{Value}
 use Rattle.pv_tree.specs.declared.Value.TheVariants as value
 use Rattle.pv_rules.specs.declared.ScalarRule.{ScalarRule}
@@ -30,16 +30,9 @@ use Rattle.pv_scalar.specs.Texts.{text_in, of_text, str_in, bytes_in}
 use Rattle.pv_scalar.specs.Literals.{literal_of, is_among, member_with, enum_value, expected_text}
 use Rattle.pv_scalar.specs.Formats.{uuid_in, url_in}
 
-abbrev pub none_at : Tree-F Tree → Graded Value
-none_at Tree-F.Null = Ok (value.None, Exact)
-none_at (Tree-F.Bool b) = Err kind.NoneRequired
-none_at (Tree-F.Num lexeme) = Err kind.NoneRequired
-none_at (Tree-F.Str text) = Err kind.NoneRequired
-none_at (Tree-F.Array ts) = Err kind.NoneRequired
-none_at (Tree-F.Object ms) = Err kind.NoneRequired
-
+-- null, and no other tree
 unfoldable pub none_answer : Tree → Graded Value
-none_answer tree = none_at (out-Tree tree)
+none_answer tree = if null_at (out-Tree tree) then Ok (value.None, Exact) else Err kind.NoneRequired
 
 unfoldable pub bool_answer : Bool → Tree → Graded Value
 bool_answer strict tree = made_into value.Bool (flag_of strict tree)

@@ -1,12 +1,13 @@
 -- What a scalar gives: a value with its grade, or what is wrong. Tests come after conversion, and the first that fails is the only error.
-use Rattle.std.specs.Prelude.{ℕ, Bool, if◌then◌else◌, List, [], ◌∷◌, Option, None, Some, Result, Ok, Err}
+use Rattle.std.specs.Prelude.{ℕ, Bool, if◌then◌else◌, Option, None, Some, Result, Ok, Err}
 use Rattle.std.specs.Option.{option_or}
 use Rattle.pv_tree.specs.declared.Tree.{Tree}
 use Rattle.pv_tree.specs.declared.Value.{Value}
 use Rattle.pv_fault.specs.declared.Grade.{Grade}
 use Rattle.pv_fault.specs.declared.Kind.{Kind}
 use Rattle.pv_fault.specs.declared.Outcome.{Outcome}
-use Rattle.pv_fault.specs.declared.Outcome.TheVariants.{Good, Bad}
+use Rattle.pv_fault.specs.declared.Outcome.TheVariants.{Good}
+use Rattle.pv_fault.specs.Single.{one_error}
 
 abbrev pub Graded : Type 0 → Type 0
 Graded A = Result (A × Grade) Kind
@@ -37,7 +38,7 @@ abbrev pub tested : {A : Type 0} → (A → Option Kind) → Graded A → Graded
 tested fault (Ok x) = with_fault (fault x.0) x
 tested fault (Err kind) = Err kind
 
--- an error has the given tree as its input, and an empty location
+-- the value, or one error at the tree itself
 abbrev pub outcome_of : Tree → Graded Value → Outcome
 outcome_of tree (Ok x) = Good x.0 x.1 None
-outcome_of tree (Err kind) = Bad (record { kind = kind; loc = []; input = tree } ∷ [])
+outcome_of tree (Err kind) = one_error kind tree

@@ -3,7 +3,7 @@ use Rattle.std.specs.Prelude.{ℕ, Bool, nat_le, if◌then◌else◌, List, leng
 use Rattle.std.specs.Option.{option_or}
 use Rattle.std.specs.Str.{trim}
 use Rattle.pv_tree.specs.declared.Tree.{Tree, out-Tree}
-use Rattle.pv_tree.specs.declared.Tree.TheOpen.{Tree-F}
+use Rattle.pv_tree.specs.Parts.{text_at}
 use Rattle.pv_rules.specs.declared.StrRule.{StrRule}
 use Rattle.pv_rules.specs.declared.BytesRule.{BytesRule}
 use Rattle.pv_rules.specs.declared.Settings.{Settings}
@@ -15,16 +15,8 @@ use Rattle.pv_fault.specs.declared.Kind.TheVariants as kind
 use Rattle.pv_formats.specs.Patterns.{matches}
 use Rattle.pv_scalar.specs.Tests.{Graded, with_fault, unless, ◌orelse◌}
 
-abbrev pub text_at : Tree-F Tree → Option (List ℕ)
-text_at (Tree-F.Str text) = Some text
-text_at Tree-F.Null = None
-text_at (Tree-F.Bool b) = None
-text_at (Tree-F.Num lexeme) = None
-text_at (Tree-F.Array ts) = None
-text_at (Tree-F.Object ms) = None
-
 -- the text that a tree is, where it is one
-unfoldable pub text_in : Tree → Option (List ℕ)
+abbrev pub text_in : Tree → Option (List ℕ)
 text_in tree = text_at (out-Tree tree)
 
 -- what is made of a text, and what any other tree is

@@ -3,25 +3,12 @@
 ghost use Rattle.std.specs.Prelude.{◌≡◌, IfOk};
 ghost use Rattle.pv_scalar.specs.Tests.{outcome_of};
 
-use pv_fault::{Faults, Grade, Kind, LineError, Outcome};
+use pv_fault::{Grade, Kind, Outcome, one_error};
 use pv_text::Memory;
-use pv_tree::{Loc, Tree, Value};
+use pv_tree::{Tree, Value};
 use std::alloc::Global;
 
 pub(crate) type Graded<T> = Result<(T, Grade), Kind>;
-
-/// One error at the whole tree.
-fn failed(alloc: Global, kind: Kind, tree: &Tree) -> Result<Outcome, Memory>
-    ensures { IfOk result (λ o. o ≡ outcome_of tree.now (Err kind)) }
-{
-    let mut faults = Faults::new(alloc);
-    faults.push(LineError {
-        kind,
-        loc: Loc::new(alloc),
-        input: tree.share(alloc)?,
-    })?;
-    Ok(Outcome::Bad(faults))
-}
 
 /// The outcome that an answer is for a tree.
 pub(crate) fn outcome(alloc: Global, answer: Graded<Value>, tree: &Tree) -> Result<Outcome, Memory>
@@ -33,6 +20,6 @@ pub(crate) fn outcome(alloc: Global, answer: Graded<Value>, tree: &Tree) -> Resu
             grade,
             fields: None,
         }),
-        Err(kind) => failed(alloc, kind, tree),
+        Err(kind) => one_error(alloc, kind, tree),
     }
 }

@@ -7,7 +7,7 @@ ghost use Rattle.pv_scalar.specs.Scalars as answer;
 
 use crate::answers::Graded;
 use crate::schemes::Schemes;
-use crate::texts::{char_count, text_in};
+use crate::texts::char_count;
 use pv_fault::{Grade, Kind};
 use pv_formats::{UrlText, UuidText, url, uuid};
 use pv_text::Memory;
@@ -60,7 +60,7 @@ pub(crate) fn uuid_answer(
 ) -> Result<Graded<Value>, Memory>
     ensures { IfOk result (λ a. a ≡ answer.uuid_answer version tree.now) }
 {
-    match text_in(tree) {
+    match tree.as_text() {
         Some(text) => uuid_in(alloc, version, text.as_str()),
         None => Ok(Err(Kind::UuidType)),
     }
@@ -129,7 +129,7 @@ pub(crate) fn url_answer(
 ) -> Result<Graded<Value>, Memory>
     ensures { IfOk result (λ a. a ≡ answer.url_answer (url_rule tests.now) tree.now) }
 {
-    match text_in(tree) {
+    match tree.as_text() {
         Some(text) => url_in(alloc, tests, text.as_str()),
         None => Ok(Err(Kind::UrlType)),
     }

@@ -5,8 +5,6 @@ ghost use Rattle.pv_scalar.specs.Literals as spec;
 
 use pv_rules::Literal;
 use pv_text::{Memory, Text};
-use pv_tree::Names;
-use sqlite_items::Items;
 use std::alloc::Global;
 
 fn in_quotes(alloc: Global, text: &Text) -> Result<Text, Memory>
@@ -43,10 +41,10 @@ fn text_of(alloc: Global, value: &Literal) -> Result<Text, Memory>
     }
 }
 
-fn texts_of(alloc: Global, values: &[Literal]) -> Result<Names, Memory>
-    ensures { IfOk result (λ texts. texts ≡ map spec.literal_text values.now) }
+fn texts_of(alloc: Global, values: &[Literal]) -> Result<Vec<Text>, Memory>
+    ensures { IfOk result (λ texts. texts.items ≡ map spec.literal_text values.now) }
 {
-    let mut texts = Items::new(alloc);
+    let mut texts = Vec::with_capacity(alloc, values.len())?;
     for value in values {
         texts.push(text_of(alloc, value)?)?;
     }

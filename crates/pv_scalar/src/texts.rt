@@ -1,7 +1,6 @@
 //! Texts and bytes.
 
 ghost use Rattle.std.specs.Prelude.{◌≡◌, ◌≤◌, nat_le, if◌then◌else◌, length, chars, IfOk};
-ghost use Rattle.std.specs.Option.{option_copied};
 ghost use Rattle.std.specs.Str.{trim};
 ghost use Rattle.pv_formats.specs.Patterns.{matches};
 ghost use Rattle.pv_scalar.specs.Tests.{unless};
@@ -111,21 +110,6 @@ fn text_fault(
     }
 }
 
-/// The text that a tree is.
-#[tactic(auto, unfolding(crate::specs::Texts::text_in))]
-pub(crate) fn text_in(tree: &Tree) -> Option<&Text>
-    ensures { option_copied result ≡ spec.text_in tree.now }
-{
-    match tree {
-        Tree::Str(text) => Some(text),
-        Tree::Null => None,
-        Tree::Bool(_) => None,
-        Tree::Num(_) => None,
-        Tree::Array(_) => None,
-        Tree::Object(_) => None,
-    }
-}
-
 /// A string, without the white space around it where that is asked for.
 #[tactic(auto, unfolding(crate::specs::Scalars::str_answer))]
 pub(crate) fn str_answer(
@@ -136,7 +120,7 @@ pub(crate) fn str_answer(
 ) -> Result<Graded<Value>, Memory>
     ensures { IfOk result (λ a. a ≡ answer.str_answer (str_rule tests.now) settings.now tree.now) }
 {
-    let Some(text) = text_in(tree) else {
+    let Some(text) = tree.as_text() else {
         return Ok(Err(Kind::StringType));
     };
     let strip = tests
@@ -187,7 +171,7 @@ pub(crate) fn bytes_answer(
 ) -> Result<Graded<Value>, Memory>
     ensures { IfOk result (λ a. a ≡ answer.bytes_answer rule.now tree.now) }
 {
-    let Some(text) = text_in(tree) else {
+    let Some(text) = tree.as_text() else {
         return Ok(Err(Kind::BytesType));
     };
     let bytes = text.as_str().as_bytes();

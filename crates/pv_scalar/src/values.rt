@@ -12,20 +12,20 @@ use std::alloc::Global;
 pub(crate) fn values_of(alloc: Global, members: &[EnumMember]) -> Result<Items<Literal>, Memory>
     ensures { IfOk result (λ all. all ≡ map enum_value members.now) }
 {
-    let mut all = Items::new(alloc);
+    let mut all = Vec::with_capacity(alloc, members.len())?;
     for member in members {
         all.push(member.value.copy(alloc)?)?;
     }
-    Ok(all)
+    Ok(Items::from_vec(all))
 }
 
 /// Texts as values.
 pub(crate) fn text_literals(alloc: Global, names: &[Text]) -> Result<Items<Literal>, Memory>
     ensures { IfOk result (λ all. all ≡ map Literal.Text names.now) }
 {
-    let mut all = Items::new(alloc);
+    let mut all = Vec::with_capacity(alloc, names.len())?;
     for name in names {
         all.push(Literal::Text(name.share(alloc)?))?;
     }
-    Ok(all)
+    Ok(Items::from_vec(all))
 }

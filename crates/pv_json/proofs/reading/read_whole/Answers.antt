@@ -9,3 +9,9 @@ overflow_sub-result c = document_left NESTING c.args.input.now c.in-Err-Fault.le
 
 pub returns-clause-fault : goal.returns-clause-fault
 returns-clause-fault c = fault_is_bad NESTING c.args.input.now c.in-Err-Fault.left (search rules) (search rules)
+
+pub returns-in-Ok-clause-tree : goal.returns-in-Ok-clause-tree
+returns-in-Ok-clause-tree c = read_is_whole NESTING c.args.input.now c.in-Ok.tree (search rules)
+
+pub returns-in-Err-Fault-eq0-clause-fault : goal.returns-in-Err-Fault-eq0-clause-fault
+returns-in-Err-Fault-eq0-clause-fault c = early_is_end NESTING c.args.input.now (search rules)
