@@ -30,11 +30,11 @@ fn copy_slot(alloc: Global, slot: &Option<Boxed<Node>>) -> Result<Option<Boxed<N
 fn copy_nodes(alloc: Global, nodes: &[Node]) -> Result<Items<Node>, Memory>
     ensures { IfOk result (λ copied. copied ≡ nodes.now) }
 {
-    let mut copied = Items::new(alloc);
+    let mut copied = Vec::with_capacity(alloc, nodes.len())?;
     for node in nodes {
         copied.push(copy_node(alloc, node)?)?;
     }
-    Ok(copied)
+    Ok(Items::from_vec(copied))
 }
 
 #[cycle(copy)]

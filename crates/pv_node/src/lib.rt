@@ -9,5 +9,5 @@ mod schema;
 
 pub use counting::count_nodes;
 pub use laws::preorder_opens;
-pub use node::{Body, Node};
+pub use node::{Body, Node, any_node};
 pub use schema::{MAX_NODES, Schema};

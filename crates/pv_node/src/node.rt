@@ -1,3 +1,6 @@
+ghost use Rattle.std.specs.Prelude.{◌≡◌};
+ghost use Rattle.pv_node.specs.Absent.{any};
+
 use pv_rules::{GatherRule, ScalarRule};
 use pv_text::Text;
 use sqlite_items::{Boxed, Items};
@@ -36,4 +39,15 @@ pub enum Body {
     Nullable {
         schema: Boxed<Node>,
     },
+}
+
+/// The node that stands for an absent schema: it takes any value.
+pub fn any_node() -> Node
+    ensures { result ≡ any }
+{
+    Node {
+        own_ref: None,
+        strict: None,
+        body: Body::Scalar(ScalarRule::Any),
+    }
 }

@@ -1,8 +1,12 @@
--- What a tree stands for under a key of a schema, where it holds no schema: nothing where it may not stand there.
-use Rattle.std.specs.Prelude.{ℕ, Bool, true, false, not, ◌&&◌, nat_le, if◌then◌else◌, List, [], ◌∷◌, codes, ℤ, pos, negsuc, Option, None, Some, is_some, bytes_eq}
+-- What a tree stands for under a key of a schema, where it holds no schema: nothing where it may
+-- not stand there.
+use Rattle.std.specs.Prelude.{ℕ, Bool, true, false, not, ◌&&◌, nat_le, if◌then◌else◌, bytes_eq}
+use Rattle.std.specs.Prelude.{List, [], ◌∷◌, codes, ℤ, pos, negsuc}
+use Rattle.std.specs.Prelude.{Option, None, Some, is_some, option_map, option_and_then}
 use Rattle.std.specs.List.{list_any}
 use Rattle.std.specs.Ordering.{int_eq}
 use Rattle.pv_number.specs.WrittenIntegers.{integer}
+use Rattle.pv_tree.specs.Parts.{text_at, lexeme_at, flag_at, items_at}
 use Rattle.pv_tree.specs.declared.Tree.{Tree, out-Tree}
 use Rattle.pv_tree.specs.declared.Tree.TheOpen.{Tree-F}
 use Rattle.pv_rules.specs.declared.Literal.{Literal}
@@ -10,35 +14,39 @@ use Rattle.pv_rules.specs.declared.Literal.TheVariants as literal
 use Rattle.pv_rules.specs.declared.EnumMember.{EnumMember}
 use Rattle.pv_rules.specs.declared.SubType.{SubType}
 use Rattle.pv_rules.specs.declared.SubType.TheVariants as sub_type
-use Rattle.pv_schema_values.specs.Levels.{text_at, flag_at, int_at, items_at}
 use Rattle.pv_schema_values.specs.declared.value_kind.ValueKind.{ValueKind}
 use Rattle.pv_schema_values.specs.declared.value_kind.ValueKind.TheVariants as value
 
+-- a text
 unfoldable pub text_of : Tree → Option (List ℕ)
 text_of t = text_at (out-Tree t)
 
+-- a flag
 unfoldable pub flag_of : Tree → Option Bool
 flag_of t = flag_at (out-Tree t)
 
+-- an integer of 128 bits that is written without a point and an exponent
 unfoldable pub int_of : Tree → Option ℤ
-int_of t = int_at (out-Tree t)
+int_of t = option_and_then integer (lexeme_at (out-Tree t))
 
 -- a number from `least` to `most`
 abbrev pub natural_within : ℕ → ℕ → Option ℤ → Option ℕ
 natural_within least most None = None
-natural_within least most (Some (pos n)) = if nat_le least n && nat_le n most then Some n else None
+natural_within least most (Some (pos n)) =
+    if nat_le least n && nat_le n most then Some n else None
 natural_within least most (Some (negsuc n)) = None
 
 -- a count: an integer from 0 to 4,294,967,295
 unfoldable pub count_of : Tree → Option ℕ
 count_of t = natural_within 0 4294967295 (int_of t)
 
--- an integer of at least 1
+-- an integer, where it is at least 1
 abbrev pub positive : Option ℤ → Option ℤ
 positive None = None
 positive (Some (pos n)) = if nat_le 1 n then Some (pos n) else None
 positive (Some (negsuc n)) = None
 
+-- an integer of at least 1
 unfoldable pub positive_of : Tree → Option ℤ
 positive_of t = positive (int_of t)
 
@@ -46,21 +54,29 @@ positive_of t = positive (int_of t)
 unfoldable pub version_of : Tree → Option ℕ
 version_of t = natural_within 1 8 (int_of t)
 
+-- whether there is a flag, and it is false
 abbrev pub is_false : Option Bool → Bool
 is_false None = false
 is_false (Some b) = not b
 
+-- whether there is a text, and it is this word
 abbrev pub is_word : List ℕ → Option (List ℕ) → Bool
 is_word word None = false
 is_word word (Some text) = bytes_eq text word
 
+-- the type that `int` and `str` name
 abbrev pub sub_type_by : Option (List ℕ) → Option SubType
 sub_type_by None = None
-sub_type_by (Some text) = if bytes_eq text (codes "int") then Some sub_type.Int else (if bytes_eq text (codes "str") then Some sub_type.Text else None)
+sub_type_by (Some text) =
+    if bytes_eq text (codes "int")
+    then Some sub_type.Int
+    else (if bytes_eq text (codes "str") then Some sub_type.Text else None)
 
+-- the type that a text names
 unfoldable pub sub_type_of : Tree → Option SubType
 sub_type_of t = sub_type_by (text_of t)
 
+-- one more value before others, where all are there
 abbrev pub put_first : {Y : Type 0} → Option Y → Option (List Y) → Option (List Y)
 put_first None ys = None
 put_first (Some y) None = None
@@ -76,6 +92,7 @@ abbrev pub some_of : {X Y : Type 0} → (X → Option Y) → List X → Option (
 some_of f [] = None
 some_of f (x ∷ xs) = put_first (f x) (all_of f xs)
 
+-- the same, where there are items
 abbrev pub some_in : {Y : Type 0} → (Tree → Option Y) → Option (List Tree) → Option (List Y)
 some_in f None = None
 some_in f (Some ts) = some_of f ts
@@ -84,43 +101,40 @@ some_in f (Some ts) = some_of f ts
 unfoldable pub texts_of : Tree → Option (List (List ℕ))
 texts_of t = some_in text_of (items_at (out-Tree t))
 
-abbrev pub int_literal : Option ℤ → Option Literal
-int_literal None = None
-int_literal (Some n) = Some (literal.Int n)
-
--- null, a flag, an int or a text
+-- one level as a value that a schema names: null, a flag, an int or a text
 abbrev pub literal_at : Tree-F Tree → Option Literal
 literal_at Tree-F.Null = Some literal.Null
 literal_at (Tree-F.Bool b) = Some (literal.Flag b)
-literal_at (Tree-F.Num lexeme) = int_literal (integer lexeme)
+literal_at (Tree-F.Num lexeme) = option_map literal.Int (integer lexeme)
 literal_at (Tree-F.Str text) = Some (literal.Text text)
 literal_at (Tree-F.Array ts) = None
-literal_at (Tree-F.Object ms) = None
+literal_at (Tree-F.Object d) = None
 
+-- a value that a schema names
 unfoldable pub literal_of : Tree → Option Literal
 literal_of t = literal_at (out-Tree t)
 
+-- a list of nulls, flags, ints and texts that is not empty
 unfoldable pub literals_of : Tree → Option (List Literal)
 literals_of t = some_in literal_of (items_at (out-Tree t))
 
--- the value of an enum's member: an int or a text
+-- one level as the value of an enum's member: an int or a text
 abbrev pub member_value_at : Tree-F Tree → Option Literal
-member_value_at Tree-F.Null = None
-member_value_at (Tree-F.Bool b) = None
-member_value_at (Tree-F.Num lexeme) = int_literal (integer lexeme)
+member_value_at (Tree-F.Num lexeme) = option_map literal.Int (integer lexeme)
 member_value_at (Tree-F.Str text) = Some (literal.Text text)
-member_value_at (Tree-F.Array ts) = None
-member_value_at (Tree-F.Object ms) = None
+member_value_at x = None
 
+-- the value of an enum's member
 unfoldable pub member_value_of : Tree → Option Literal
 member_value_of t = member_value_at (out-Tree t)
 
+-- a member, where its name and its value are there
 abbrev pub member_by : Option (List ℕ) → Option Literal → Option EnumMember
 member_by None value = None
 member_by (Some name) None = None
 member_by (Some name) (Some value) = Some (record { name = name; value = value })
 
--- a pair of a name and a value
+-- a member by the items of its list, where these are a name and a value
 abbrev pub member_in : Option (List Tree) → Option EnumMember
 member_in None = None
 member_in (Some []) = None
@@ -128,6 +142,7 @@ member_in (Some (name ∷ [])) = None
 member_in (Some (name ∷ value ∷ [])) = member_by (text_of name) (member_value_of value)
 member_in (Some (name ∷ value ∷ more ∷ ts)) = None
 
+-- a member: a pair of a name and a value
 unfoldable pub member_of : Tree → Option EnumMember
 member_of t = member_in (items_at (out-Tree t))
 
@@ -136,34 +151,38 @@ abbrev pub are_distinct : {X : Type 0} → (X → X → Bool) → List X → Boo
 are_distinct eq [] = true
 are_distinct eq (x ∷ xs) = not (list_any (eq x) xs) && are_distinct eq xs
 
+-- the names of the members
 abbrev pub names_in : List EnumMember → List (List ℕ)
 names_in [] = []
 names_in (m ∷ ms) = m.name ∷ names_in ms
 
+-- an int before others, where the value is one
 abbrev pub int_first : Literal → List ℤ → List ℤ
-int_first literal.Null ns = ns
-int_first (literal.Flag b) ns = ns
 int_first (literal.Int n) ns = n ∷ ns
-int_first (literal.Text text) ns = ns
+int_first l ns = ns
 
+-- the ints among the values of the members
 abbrev pub ints_in : List EnumMember → List ℤ
 ints_in [] = []
 ints_in (m ∷ ms) = int_first m.value (ints_in ms)
 
+-- a text before others, where the value is one
 abbrev pub text_first : Literal → List (List ℕ) → List (List ℕ)
-text_first literal.Null ts = ts
-text_first (literal.Flag b) ts = ts
-text_first (literal.Int n) ts = ts
 text_first (literal.Text text) ts = text ∷ ts
+text_first l ts = ts
 
+-- the texts among the values of the members
 abbrev pub texts_in : List EnumMember → List (List ℕ)
 texts_in [] = []
 texts_in (m ∷ ms) = text_first m.value (texts_in ms)
 
 -- no name stands twice, and no value
 unfoldable pub are_members : List EnumMember → Bool
-are_members ms = are_distinct bytes_eq (names_in ms) && (are_distinct int_eq (ints_in ms) && are_distinct bytes_eq (texts_in ms))
+are_members ms =
+    are_distinct bytes_eq (names_in ms)
+    && (are_distinct int_eq (ints_in ms) && are_distinct bytes_eq (texts_in ms))
 
+-- members, where no name stands twice, and no value
 abbrev pub where_distinct : Option (List EnumMember) → Option (List EnumMember)
 where_distinct None = None
 where_distinct (Some ms) = if are_members ms then Some ms else None

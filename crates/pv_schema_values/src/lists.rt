@@ -1,14 +1,12 @@
 //! Lists whose items are all of one kind.
 
-ghost use Rattle.std.specs.Prelude.{◌≡◌, IfOk, Option, List};
-ghost use Rattle.std.specs.Option.{option_copied};
-ghost use Rattle.pv_schema_values.specs.Levels.{items_at};
+ghost use Rattle.std.specs.Prelude.{◌≡◌, IfOk, Option, option_map};
+ghost use Rattle.pv_tree.specs.Parts.{items_at};
 ghost use Rattle.pv_schema_values.specs.Values as spec;
 ghost use Rattle.pv_tree.specs.declared.Tree.{Tree, out-Tree};
 
 use pv_text::Memory;
 use pv_tree::Tree;
-use sqlite_items::Items;
 use std::alloc::Global;
 
 /// What a tree may stand for by itself.
@@ -20,26 +18,13 @@ pub(crate) trait FromTree: Drop + Sized {
         ensures { IfOk result (λ found. found ≡ of tree.now) };
 }
 
-pub(crate) fn items_of(tree: &Tree) -> Option<&[Tree]>
-    ensures { option_copied result ≡ items_at (out-Tree tree.now) }
-{
-    match tree {
-        Tree::Null => None,
-        Tree::Bool(_) => None,
-        Tree::Num(_) => None,
-        Tree::Str(_) => None,
-        Tree::Array(items) => Some(items.as_slice()),
-        Tree::Object(_) => None,
-    }
-}
-
-fn some_of<T: FromTree>(alloc: Global, items: &[Tree]) -> Result<Option<Items<T>>, Memory>
-    ensures { IfOk result (λ found. found ≡ spec.some_of T.of items.now) }
+fn some_of<T: FromTree>(alloc: Global, items: &[Tree]) -> Result<Option<Vec<T>>, Memory>
+    ensures { IfOk result (λ found. option_map (λ v. v.items) found ≡ spec.some_of T.of items.now) }
 {
     if items.is_empty() {
         return Ok(None);
     }
-    let mut all = Items::new(alloc);
+    let mut all = Vec::with_capacity(alloc, items.len())?;
     for item in items {
         let Some(value) = T::from_tree(alloc, item)? else {
             return Ok(None);
@@ -49,12 +34,13 @@ fn some_of<T: FromTree>(alloc: Global, items: &[Tree]) -> Result<Option<Items<T>
     Ok(Some(all))
 }
 
-/// All that the items of a list stand for. It is `None` where the tree is no list, the list is empty or
-/// one of its items stands for nothing.
-pub(crate) fn some_in<T: FromTree>(alloc: Global, tree: &Tree) -> Result<Option<Items<T>>, Memory>
-    ensures { IfOk result (λ found. found ≡ spec.some_in T.of (items_at (out-Tree tree.now))) }
+/// All that the items of a list stand for. It is `None` where the tree is no list, the list is
+/// empty or one of its items stands for nothing.
+pub(crate) fn some_in<T: FromTree>(alloc: Global, tree: &Tree) -> Result<Option<Vec<T>>, Memory>
+    ensures { IfOk result (λ found. option_map (λ v. v.items) found
+        ≡ spec.some_in T.of (items_at (out-Tree tree.now))) }
 {
-    match items_of(tree) {
+    match tree.as_array() {
         None => Ok(None),
         Some(items) => some_of(alloc, items),
     }

@@ -1,7 +1,8 @@
 //! Values that a schema names.
 
-ghost use Rattle.std.specs.Prelude.{◌≡◌, IfOk};
+ghost use Rattle.std.specs.Prelude.{◌≡◌, IfOk, option_map};
 ghost use Rattle.pv_number.specs.WrittenIntegers as written;
+ghost use Rattle.pv_rules.specs.declared.Literal.TheVariants as literal;
 ghost use Rattle.pv_schema_values.specs.Values as spec;
 
 use crate::lists::{FromTree, some_in};
@@ -14,7 +15,7 @@ use std::alloc::Global;
 
 /// An integer of 128 bits that is written without a point and an exponent.
 pub(crate) fn int_literal(lexeme: &Lexeme) -> Option<Literal>
-    ensures { result ≡ spec.int_literal (written.integer lexeme.now) }
+    ensures { result ≡ option_map literal.Int (written.integer lexeme.now) }
 {
     match integer(lexeme) {
         None => None,
@@ -32,8 +33,7 @@ impl FromTree for Literal {
             Tree::Bool(flag) => Ok(Some(Literal::Flag(*flag))),
             Tree::Num(lexeme) => Ok(int_literal(lexeme)),
             Tree::Str(text) => Ok(Some(Literal::Text(text.share(alloc)?))),
-            Tree::Array(_) => Ok(None),
-            Tree::Object(_) => Ok(None),
+            Tree::Array(_) | Tree::Object(_) => Ok(None),
         }
     }
 }
@@ -43,5 +43,8 @@ impl FromTree for Literal {
 pub fn literals_of(alloc: Global, tree: &Tree) -> Result<Option<Items<Literal>>, Memory>
     ensures { IfOk result (λ found. found ≡ spec.literals_of tree.now) }
 {
-    some_in(alloc, tree)
+    match some_in(alloc, tree)? {
+        Some(all) => Ok(Some(Items::from_vec(all))),
+        None => Ok(None),
+    }
 }

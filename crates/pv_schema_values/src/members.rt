@@ -1,12 +1,10 @@
 //! Members of enums.
 
 ghost use Rattle.std.specs.Prelude.{◌≡◌, IfOk};
-ghost use Rattle.pv_schema_values.specs.Levels.{items_at};
 ghost use Rattle.pv_schema_values.specs.Values as spec;
-ghost use Rattle.pv_tree.specs.declared.Tree.{out-Tree};
 
 use crate::distinct::are_distinct;
-use crate::lists::{FromTree, items_of, some_in};
+use crate::lists::{FromTree, some_in};
 use crate::literals::int_literal;
 use crate::plain_values::text_of;
 use pv_rules::{EnumMember, Literal};
@@ -21,26 +19,24 @@ fn member_value_of(alloc: Global, tree: &Tree) -> Result<Option<Literal>, Memory
     ensures { IfOk result (λ found. found ≡ spec.member_value_of tree.now) }
 {
     match tree {
-        Tree::Null => Ok(None),
-        Tree::Bool(_) => Ok(None),
         Tree::Num(lexeme) => Ok(int_literal(lexeme)),
         Tree::Str(text) => Ok(Some(Literal::Text(text.share(alloc)?))),
-        Tree::Array(_) => Ok(None),
-        Tree::Object(_) => Ok(None),
+        Tree::Null | Tree::Bool(_) | Tree::Array(_) | Tree::Object(_) => Ok(None),
     }
 }
 
 fn member_by(alloc: Global, name: &Tree, value: &Tree) -> Result<Option<EnumMember>, Memory>
-    ensures { IfOk result (λ found. found ≡ spec.member_by (spec.text_of name.now) (spec.member_value_of value.now)) }
+    ensures { IfOk result (λ found. found
+        ≡ spec.member_by (spec.text_of name.now) (spec.member_value_of value.now)) }
 {
     let Some(name) = text_of(name) else {
         return Ok(None);
     };
-    let Some(value) = member_value_of(alloc, value)? else {
-        return Ok(None);
-    };
     let name = name.share(alloc)?;
-    Ok(Some(EnumMember { name, value }))
+    match member_value_of(alloc, value)? {
+        Some(value) => Ok(Some(EnumMember { name, value })),
+        None => Ok(None),
+    }
 }
 
 impl FromTree for EnumMember {
@@ -48,12 +44,9 @@ impl FromTree for EnumMember {
 
     #[tactic(auto, unfolding(crate::specs::Values::member_of))]
     fn from_tree(alloc: Global, tree: &Tree) -> Result<Option<EnumMember>, Memory> {
-        match items_of(tree) {
-            None => Ok(None),
-            Some([]) => Ok(None),
-            Some([_]) => Ok(None),
+        match tree.as_array() {
             Some([name, value]) => member_by(alloc, name, value),
-            Some([_, _, _, ..]) => Ok(None),
+            _ => Ok(None),
         }
     }
 }
@@ -61,7 +54,7 @@ impl FromTree for EnumMember {
 fn names_in(alloc: Global, members: &[EnumMember]) -> Result<Vec<Text>, Memory>
     ensures { IfOk result (λ names. names.items ≡ spec.names_in members.now) }
 {
-    let mut names = Vec::new(alloc);
+    let mut names = Vec::with_capacity(alloc, members.len())?;
     for member in members {
         names.push(member.name.share(alloc)?)?;
     }
@@ -74,10 +67,8 @@ fn ints_in(alloc: Global, members: &[EnumMember]) -> Result<Vec<i128>, Memory>
     let mut ints = Vec::new(alloc);
     for member in members {
         match &member.value {
-            Literal::Null => {}
-            Literal::Flag(_) => {}
             Literal::Int(n) => ints.push(*n)?,
-            Literal::Text(_) => {}
+            Literal::Null | Literal::Flag(_) | Literal::Text(_) => {}
         }
     }
     Ok(ints)
@@ -89,10 +80,8 @@ fn texts_in(alloc: Global, members: &[EnumMember]) -> Result<Vec<Text>, Memory>
     let mut texts = Vec::new(alloc);
     for member in members {
         match &member.value {
-            Literal::Null => {}
-            Literal::Flag(_) => {}
-            Literal::Int(_) => {}
             Literal::Text(text) => texts.push(text.share(alloc)?)?,
+            Literal::Null | Literal::Flag(_) | Literal::Int(_) => {}
         }
     }
     Ok(texts)
@@ -112,8 +101,8 @@ fn are_members(alloc: Global, members: &[EnumMember]) -> Result<bool, Memory>
     are_distinct(alloc, texts_in(alloc, members)?)
 }
 
-/// The members of a list of pairs of a name and a value that is not empty. Names are distinct, and values
-/// are. Texts are shared.
+/// The members of a list of pairs of a name and a value that is not empty. Names are distinct, and
+/// values are. Texts are shared.
 #[tactic(auto, unfolding(crate::specs::Values::members_of))]
 pub fn members_of(alloc: Global, tree: &Tree) -> Result<Option<Items<EnumMember>>, Memory>
     ensures { IfOk result (λ found. found ≡ spec.members_of tree.now) }
@@ -122,7 +111,7 @@ pub fn members_of(alloc: Global, tree: &Tree) -> Result<Option<Items<EnumMember>
         return Ok(None);
     };
     if are_members(alloc, members.as_slice())? {
-        Ok(Some(members))
+        Ok(Some(Items::from_vec(members)))
     } else {
         Ok(None)
     }

@@ -6,18 +6,20 @@ ghost use Rattle.pv_schema_values.specs.Values as spec;
 use pv_number::integer;
 use pv_tree::Tree;
 
+/// The greatest count.
+const MAX_COUNT: u64 = 4_294_967_295;
+
+/// The last of the versions of UUIDs, which count from 1.
+const LAST_VERSION: u64 = 8;
+
 /// An integer of 128 bits that is written without a point and an exponent.
 #[tactic(auto, unfolding(crate::specs::Values::int_of))]
 pub fn int_of(tree: &Tree) -> Option<i128>
     ensures { result ≡ spec.int_of tree.now }
 {
-    match tree {
-        Tree::Null => None,
-        Tree::Bool(_) => None,
-        Tree::Num(lexeme) => integer(lexeme),
-        Tree::Str(_) => None,
-        Tree::Array(_) => None,
-        Tree::Object(_) => None,
+    match tree.as_lexeme() {
+        Some(lexeme) => integer(lexeme),
+        None => None,
     }
 }
 
@@ -41,15 +43,15 @@ fn natural_within(least: u64, most: u64, number: Option<i128>) -> Option<u64>
 pub fn count_of(tree: &Tree) -> Option<u64>
     ensures { result ≡ spec.count_of tree.now }
 {
-    natural_within(0, 4_294_967_295, int_of(tree))
+    natural_within(0, MAX_COUNT, int_of(tree))
 }
 
 fn positive(number: Option<i128>) -> Option<i128>
     ensures { result ≡ spec.positive number }
 {
     match number {
-        None => None,
-        Some(n) => { if n >= 1 { Some(n) } else { None } }
+        Some(n) if n >= 1 => Some(n),
+        _ => None,
     }
 }
 
@@ -66,5 +68,5 @@ pub fn positive_of(tree: &Tree) -> Option<i128>
 pub fn version_of(tree: &Tree) -> Option<u64>
     ensures { result ≡ spec.version_of tree.now }
 {
-    natural_within(1, 8, int_of(tree))
+    natural_within(1, LAST_VERSION, int_of(tree))
 }

@@ -11,26 +11,12 @@ use pv_tree::Tree;
 pub fn text_of(tree: &Tree) -> Option<&Text>
     ensures { option_copied result ≡ spec.text_of tree.now }
 {
-    match tree {
-        Tree::Null => None,
-        Tree::Bool(_) => None,
-        Tree::Num(_) => None,
-        Tree::Str(text) => Some(text),
-        Tree::Array(_) => None,
-        Tree::Object(_) => None,
-    }
+    tree.as_text()
 }
 
 #[tactic(auto, unfolding(crate::specs::Values::flag_of))]
 pub fn flag_of(tree: &Tree) -> Option<bool>
     ensures { result ≡ spec.flag_of tree.now }
 {
-    match tree {
-        Tree::Null => None,
-        Tree::Bool(flag) => Some(*flag),
-        Tree::Num(_) => None,
-        Tree::Str(_) => None,
-        Tree::Array(_) => None,
-        Tree::Object(_) => None,
-    }
+    tree.as_flag()
 }

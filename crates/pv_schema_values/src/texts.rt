@@ -6,8 +6,7 @@ ghost use Rattle.pv_schema_values.specs.Values as spec;
 use crate::lists::{FromTree, some_in};
 use crate::plain_values::text_of;
 use pv_text::{Memory, Text};
-use pv_tree::Tree;
-use sqlite_items::Items;
+use pv_tree::{Names, Row, Tree};
 use std::alloc::Global;
 
 impl FromTree for Text {
@@ -23,8 +22,11 @@ impl FromTree for Text {
 
 /// The texts of a list of texts that is not empty. They are shared.
 #[tactic(auto, unfolding(crate::specs::Values::texts_of))]
-pub fn texts_of(alloc: Global, tree: &Tree) -> Result<Option<Items<Text>>, Memory>
+pub fn texts_of(alloc: Global, tree: &Tree) -> Result<Option<Names>, Memory>
     ensures { IfOk result (λ found. found ≡ spec.texts_of tree.now) }
 {
-    some_in(alloc, tree)
+    match some_in(alloc, tree)? {
+        Some(all) => Ok(Some(Row::from_vec(alloc, all)?)),
+        None => Ok(None),
+    }
 }

@@ -9,4 +9,4 @@ with_rest ys None = None
 with_rest ys (Some zs) = Some (ys ++ zs)
 
 abbrev pub invariant-loop-item : goal.invariant-loop-item
-invariant-loop-item g l = with_rest l.all (all_of g.T.FromTree.of (drop l.item-index l.items)) ≡ all_of g.T.FromTree.of l.items
+invariant-loop-item g l = with_rest l.all.items (all_of g.T.FromTree.of (drop l.item-index l.items)) ≡ all_of g.T.FromTree.of l.items
