@@ -7,6 +7,7 @@ use Rattle.pv_tree.specs.declared.Step.TheVariants.{Name, Index}
 use Rattle.pv_tree.specs.declared.Tree.{Tree, out-Tree}
 use Rattle.pv_tree.specs.declared.Tree.TheOpen.{Tree-F}
 use Rattle.pv_tree.specs.declared.Tree.TheVariants as tree
+use Rattle.pv_tree.specs.Parts.{items_at}
 use Rattle.pv_tree.specs.declared.Value.{Value}
 use Rattle.pv_tree.specs.declared.Value.TheVariants as value
 use Rattle.pv_rules.specs.declared.Collection.{Collection}
@@ -22,8 +23,9 @@ use Rattle.pv_fault.specs.Counts.{sum_of}
 use Rattle.pv_fault.specs.Under.{all_under}
 use Rattle.pv_equality.specs.Hashable.{hashable}
 use Rattle.pv_equality.specs.Merging.{merged_entries}
-use Rattle.pv_collect.specs.Gathering.{Part, Pair, error_here, own_grade, needs_hash, errors_of, item_errors, items_errors, key_errors, pair_errors, outcomes_in, values_of, grades_of, counts_of, both_in, entry_of, entries_of, kept, made_of, missing_of, wanted, length_fault, measured, unless_errors, gather_items, gather_pairs}
-use Rattle.pv_collect.specs.State.{Gathered, items_at, items_in, fault_errors, or_else, with_errors, items_end, pairs_end, is_object_at, is_object, closed, outcome_of, valid_item, valid_key, valid_value, valid_entry, one_or_none, valid_items, valid_entries, gathered_items, gathered_pairs}
+use Rattle.pv_fault.specs.Single.{error_here}
+use Rattle.pv_collect.specs.Gathering.{Part, Pair, own_grade, needs_hash, errors_of, item_errors, items_errors, key_errors, pair_errors, outcomes_in, values_of, grades_of, counts_of, both_in, entry_of, entries_of, kept, made_of, missing_of, wanted, length_fault, measured, unless_errors, gather_items, gather_pairs}
+use Rattle.pv_collect.specs.State.{GatheredItems, GatheredPairs, count_of, items_in, fault_errors, or_else, closed_items, closed_pairs, items_outcome, pairs_outcome, valid_item, valid_key, valid_value, valid_entry, one_or_none, valid_items, valid_entries, gathered_items, gathered_pairs}
 
 pub some_errors : (es : List LineError) (o : Outcome) → 0 < length es → unless_errors es o ≡ Bad es
 some_errors [] o h = absurd (omega arith)
@@ -102,7 +104,7 @@ or_measured [] None t o = refl
 or_measured [] (Some k) t o = refl
 or_measured (e ∷ es) f t o = refl
 
-items_gathered : (r : GatherRule) (t : Tree) (ps : List Part) → outcome_of (with_errors (gathered_items r ps) (items_end (gathered_items r ps) t)) false ≡ gather_items r (items_in t) t ps
+items_gathered : (r : GatherRule) (t : Tree) (ps : List Part) → items_outcome (closed_items (gathered_items r ps) t) ≡ gather_items r (items_in t) t ps
 unfolding gathered_items gather_items
 items_gathered r t ps =
     let es : List LineError = items_errors r.kind 0 ps in
@@ -114,7 +116,7 @@ items_gathered r t ps =
     ∙ same_unless (es ++ missing) _ _
     (λ h. ap (λ vs. measured (length_fault r (items_in t) (length (kept r.kind vs))) t (Good (made_of r.kind (kept r.kind vs)) grade count)) (all_valid r.kind 0 ps (empty_first es missing h)))
 
-pairs_gathered : (r : GatherRule) (t : Tree) (ps : List Pair) → outcome_of (with_errors (gathered_pairs r ps) (pairs_end (gathered_pairs r ps) t)) true ≡ gather_pairs r t ps
+pairs_gathered : (r : GatherRule) (t : Tree) (ps : List Pair) → pairs_outcome (closed_pairs (gathered_pairs r ps) t) ≡ gather_pairs r t ps
 unfolding gathered_pairs gather_pairs
 pairs_gathered r t ps =
     let es : List LineError = flat_map pair_errors ps in
@@ -125,23 +127,11 @@ pairs_gathered r t ps =
     ∙ same_unless es _ _
     (λ h. ap (λ fs. measured (length_fault r (length (merged_entries fs)) (length (merged_entries fs))) t (Good (value.Dict (merged_entries fs)) grade count)) (all_entries ps h))
 
-pub items_finished : (g h : Gathered) (b : Bool) (o : Outcome) (t : Tree) → h ≡ closed g t → b ≡ is_object t → o ≡ outcome_of h b
-    → (ts : List Tree) (r : GatherRule) (ps : List Part) → out-Tree t ≡ Tree-F.Array ts → g ≡ gathered_items r ps → o ≡ gather_items r (length ts) t ps
-unfolding closed
-items_finished g h b o t close object made ts r ps array held =
-    let no : is_object t ≡ false = ap is_object_at array in
-    made
-    ∙ ap (λ x. outcome_of x b) (close ∙ ap (λ c. with_errors g (cond c (pairs_end g t) (items_end g t))) no ∙ ap (λ x. with_errors x (items_end x t)) held)
-    ∙ ap (outcome_of (with_errors (gathered_items r ps) (items_end (gathered_items r ps) t))) (object ∙ no)
-    ∙ items_gathered r t ps
-    ∙ ap (λ x. gather_items r (items_at x) t ps) array
+pub items_finished : (g h : GatheredItems) (o : Outcome) (t : Tree) → h ≡ closed_items g t → o ≡ items_outcome h
+    → (ts : List Tree) (r : GatherRule) (ps : List Part) → items_at (out-Tree t) ≡ Some ts → g ≡ gathered_items r ps → o ≡ gather_items r (length ts) t ps
+items_finished g h o t close made ts r ps array held =
+    made ∙ ap items_outcome (close ∙ ap (λ x. closed_items x t) held) ∙ items_gathered r t ps ∙ ap (λ c. gather_items r (count_of c) t ps) array
 
-pub pairs_finished : (g h : Gathered) (b : Bool) (o : Outcome) (t : Tree) → h ≡ closed g t → b ≡ is_object t → o ≡ outcome_of h b
-    → (ms : List (List ℕ × Tree)) (r : GatherRule) (ps : List Pair) → out-Tree t ≡ Tree-F.Object ms → g ≡ gathered_pairs r ps → o ≡ gather_pairs r t ps
-unfolding closed
-pairs_finished g h b o t close object made ms r ps members held =
-    let yes : is_object t ≡ true = ap is_object_at members in
-    made
-    ∙ ap (λ x. outcome_of x b) (close ∙ ap (λ c. with_errors g (cond c (pairs_end g t) (items_end g t))) yes ∙ ap (λ x. with_errors x (pairs_end x t)) held)
-    ∙ ap (outcome_of (with_errors (gathered_pairs r ps) (pairs_end (gathered_pairs r ps) t))) (object ∙ yes)
-    ∙ pairs_gathered r t ps
+pub pairs_finished : (g h : GatheredPairs) (o : Outcome) (t : Tree) → h ≡ closed_pairs g t → o ≡ pairs_outcome h
+    → (r : GatherRule) (ps : List Pair) → g ≡ gathered_pairs r ps → o ≡ gather_pairs r t ps
+pairs_finished g h o t close made r ps held = made ∙ ap pairs_outcome (close ∙ ap (λ x. closed_pairs x t) held) ∙ pairs_gathered r t ps

@@ -1,5 +1,5 @@
 -- What is held after one more part.
-use Rattle.std.proofs.Common.{◌≡◌, ℕ, ◌+◌, List, [], ◌∷◌, ◌++◌, length, refl, sym, ap, ◌∙◌, append-nil, append_assoc, arith, length-append}
+use Rattle.std.proofs.Common.{◌≡◌, ℕ, ◌+◌, Bool, true, false, List, [], ◌∷◌, ◌++◌, length, refl, sym, ap, ◌∙◌, append-nil, append_assoc, arith, length-append}
 use Rattle.std.specs.Prelude.{codes, Option, None, Some}
 use Rattle.std.specs.Option.{option_zip}
 use Rattle.std.specs.List.{flat_map}
@@ -9,7 +9,6 @@ use Rattle.pv_tree.specs.declared.Step.TheVariants.{Name, Index}
 use Rattle.pv_tree.specs.declared.Tree.{Tree}
 use Rattle.pv_tree.specs.declared.Value.{Value}
 use Rattle.pv_rules.specs.declared.Collection.{Collection}
-use Rattle.pv_rules.specs.declared.Collection.TheVariants as collection
 use Rattle.pv_rules.specs.declared.GatherRule.{GatherRule}
 use Rattle.pv_fault.specs.declared.Grade.{Grade}
 use Rattle.pv_fault.specs.declared.LineError.{LineError}
@@ -20,8 +19,9 @@ use Rattle.pv_fault.specs.Counts.{sum_of}
 use Rattle.pv_fault.specs.Under.{under, all_under}
 use Rattle.pv_fault.proofs.Sums.{least_more, sum_of_more}
 use Rattle.pv_equality.specs.Merging.{put_item, put_items, first_of_each, put_entry, put_entries, merged_entries}
-use Rattle.pv_collect.specs.Gathering.{Part, Pair, own_grade, errors_of, item_errors, items_errors, key_errors, pair_errors, outcomes_in, grades_of, counts_of, both_in, kept}
-use Rattle.pv_collect.specs.State.{Tallied, Gathered, held, valid_item, valid_key, valid_value, valid_entry, one_or_none, valid_items, valid_entries, gathered_items, gathered_pairs, tallied, tallied_pair, put_kept, put_valid, put_valid_entry, added_item, added_pair}
+use Rattle.pv_collect.specs.Gathering.{Part, Pair, own_grade, errors_of, item_errors, items_errors, key_errors, pair_errors, outcomes_in, grades_of, counts_of, both_in, needs_hash, kept_by}
+use Rattle.pv_collect.specs.declared.kept.Kept.{Kept}
+use Rattle.pv_collect.specs.State.{Tallied, GatheredItems, GatheredPairs, values_in, valid_item, valid_key, valid_value, valid_entry, one_or_none, valid_items, valid_entries, gathered_items, gathered_pairs, tallied, tallied_pair, put_kept, put_valid, put_valid_entry, added_item, added_pair}
 
 -- errors
 errors_more : (k : Collection) (i n : ℕ) (ps : List Part) (p : Part) → n ≡ i + length ps
@@ -70,73 +70,61 @@ put_items_more : (vs ws : List Value) (v : Value) → put_items vs (ws ++ v ∷ 
 put_items_more vs [] v = refl
 put_items_more vs (w ∷ ws) v = put_items_more (put_item vs w) ws v
 
-kept_more : (k : Collection) (vs : List Value) (v : Value) → kept k (vs ++ v ∷ []) ≡ put_kept k (kept k vs) v
+kept_more : (b : Bool) (vs : List Value) (v : Value) → kept_by b (vs ++ v ∷ []) ≡ put_kept b (kept_by b vs) v
 unfolding first_of_each
-kept_more collection.List vs v = refl
-kept_more collection.Tuple vs v = refl
-kept_more collection.Set vs v = put_items_more [] vs v
-kept_more collection.Frozen vs v = put_items_more [] vs v
-kept_more collection.Dict vs v = refl
+kept_more true vs v = put_items_more [] vs v
+kept_more false vs v = refl
 
 valid_more : (k : Collection) (ps : List Part) (p : Part) → valid_items k (ps ++ p ∷ []) ≡ valid_items k ps ++ one_or_none (valid_item k p.outcome)
 valid_more k [] p = append-nil (one_or_none (valid_item k p.outcome))
 valid_more k (q ∷ ps) p =
     ap (λ vs. one_or_none (valid_item k q.outcome) ++ vs) (valid_more k ps p) ∙ sym (append_assoc (one_or_none (valid_item k q.outcome)) (valid_items k ps) _)
 
-put_one : (k : Collection) (vs : List Value) (v : Option Value) → put_valid k (kept k vs) v ≡ kept k (vs ++ one_or_none v)
-put_one k vs None = ap (kept k) (sym (append-nil vs))
-put_one k vs (Some v) = sym (kept_more k vs v)
+put_one : (b : Bool) (vs : List Value) (v : Option Value) → put_valid b (kept_by b vs) v ≡ kept_by b (vs ++ one_or_none v)
+put_one b vs None = ap (kept_by b) (sym (append-nil vs))
+put_one b vs (Some v) = sym (kept_more b vs v)
 
-same_gathered : (r : GatherRule) (m n : ℕ) (vs ws : List Value) (es fs : List (Value × Value)) (s t : Tallied) → m ≡ n → vs ≡ ws → es ≡ fs → s ≡ t
-    → (let x : Gathered = record { rule = r; items = m; values = vs; entries = es; tally = s } in x) ≡ record { rule = r; items = n; values = ws; entries = fs; tally = t }
-same_gathered r m n vs ws es fs s t a b c d = cc
+same_items : (r : GatherRule) (m n : ℕ) (vs ws : List Value) (s t : Tallied) → m ≡ n → vs ≡ ws → s ≡ t
+    → (let x : GatheredItems = record { rule = r; items = m; values = vs; tally = s } in x) ≡ record { rule = r; items = n; values = ws; tally = t }
+same_items r m n vs ws s t a b c = cc
+
+same_pairs : (r : GatherRule) (es fs : List (Value × Value)) (s t : Tallied) → es ≡ fs → s ≡ t
+    → (let x : GatheredPairs = record { rule = r; entries = es; tally = s } in x) ≡ record { rule = r; entries = fs; tally = t }
+same_pairs r es fs s t a b = cc
 
 item_added : (r : GatherRule) (ps : List Part) (p : Part) → added_item (gathered_items r ps) p.input p.outcome ≡ gathered_items r (ps ++ p ∷ [])
 unfolding added_item gathered_items
 item_added r ps p =
     let own : Grade = own_grade r.kind in
     let here : List LineError = all_under (Index (length ps)) (item_errors r.kind p.input p.outcome) in
-    same_gathered r _ _ _ _ _ _ _ _
+    same_items r _ _ _ _ _ _
     (sym (length-append ps (p ∷ [])))
-    (put_one r.kind (valid_items r.kind ps) (valid_item r.kind p.outcome) ∙ ap (kept r.kind) (sym (valid_more r.kind ps p)))
-    refl
+    (put_one (needs_hash r.kind) (valid_items r.kind ps) (valid_item r.kind p.outcome) ∙ ap (kept_by (needs_hash r.kind)) (sym (valid_more r.kind ps p)))
     (tally_more own (outcomes_in ps) p.outcome (items_errors r.kind 0 ps) here
     ∙ ap (λ os. tally_of own os (items_errors r.kind 0 ps ++ here)) (sym (outcomes_more ps p))
     ∙ ap (tally_of own (outcomes_in (ps ++ p ∷ []))) (sym (errors_more r.kind 0 (length ps) ps p (omega arith))))
 
-pub item_held : (g h : Gathered) (t : Tree) (o : Outcome) → h ≡ added_item g t o → (r : GatherRule) (ps : List Part) → g ≡ gathered_items r ps
+pub item_held : (g h : GatheredItems) (t : Tree) (o : Outcome) → h ≡ added_item g t o → (r : GatherRule) (ps : List Part) → g ≡ gathered_items r ps
     → h ≡ gathered_items r (ps ++ record { input = t; outcome = o } ∷ [])
 item_held g h t o after r ps before = after ∙ ap (λ x. added_item x t o) before ∙ item_added r ps (record { input = t; outcome = o })
 
-kept_none : (k : Collection) → kept k [] ≡ []
+kept_none : (b : Bool) → kept_by b [] ≡ []
 unfolding first_of_each
-kept_none collection.List = refl
-kept_none collection.Tuple = refl
-kept_none collection.Set = refl
-kept_none collection.Frozen = refl
-kept_none collection.Dict = refl
-
-held_none : (k : Collection) (vs ws : List Value) → vs ≡ [] → ws ≡ [] → held k vs ws ≡ []
-held_none collection.List vs ws a b = a
-held_none collection.Tuple vs ws a b = a
-held_none collection.Set vs ws a b = b
-held_none collection.Frozen vs ws a b = b
-held_none collection.Dict vs ws a b = a
+kept_none true = refl
+kept_none false = refl
 
 -- nothing is held before the first part
-pub no_items : (r : GatherRule) (vs ws : List Value) (es : List (Value × Value)) (g : Grade) (t : Tallied) → vs ≡ [] → ws ≡ [] → es ≡ [] → g ≡ own_grade r.kind
+pub no_items : (r : GatherRule) (k : Kept) (g : Grade) (t : Tallied) → values_in k ≡ [] → g ≡ own_grade r.kind
     → t ≡ record { errors = []; grade = g; count = None }
-    → (let x : Gathered = record { rule = r; items = 0; values = held r.kind vs ws; entries = es; tally = t } in x) ≡ gathered_items r []
+    → (let x : GatheredItems = record { rule = r; items = 0; values = values_in k; tally = t } in x) ≡ gathered_items r []
 unfolding gathered_items
-no_items r vs ws es g t a b c d e =
-    same_gathered r _ _ _ _ _ _ _ _ refl (held_none r.kind vs ws a b ∙ sym (kept_none r.kind)) c (e ∙ same_tally _ _ _ _ _ _ refl d refl)
+no_items r k g t a b c = same_items r _ _ _ _ _ _ refl (a ∙ sym (kept_none (needs_hash r.kind))) (c ∙ same_tally _ _ _ _ _ _ refl b refl)
 
-pub no_pairs : (r : GatherRule) (vs ws : List Value) (es : List (Value × Value)) (g : Grade) (t : Tallied) → vs ≡ [] → ws ≡ [] → es ≡ [] → g ≡ own_grade r.kind
+pub no_pairs : (r : GatherRule) (es : List (Value × Value)) (g : Grade) (t : Tallied) → es ≡ [] → g ≡ own_grade r.kind
     → t ≡ record { errors = []; grade = g; count = None }
-    → (let x : Gathered = record { rule = r; items = 0; values = held r.kind vs ws; entries = es; tally = t } in x) ≡ gathered_pairs r []
+    → (let x : GatheredPairs = record { rule = r; entries = es; tally = t } in x) ≡ gathered_pairs r []
 unfolding gathered_pairs merged_entries
-no_pairs r vs ws es g t a b c d e =
-    same_gathered r _ _ _ _ _ _ _ _ refl (held_none r.kind vs ws a b) c (e ∙ same_tally _ _ _ _ _ _ refl d refl)
+no_pairs r es g t a b c = same_pairs r _ _ _ _ a (c ∙ same_tally _ _ _ _ _ _ refl b refl)
 
 -- entries
 put_entries_more : (es fs : List (Value × Value)) (k v : Value) → put_entries es (fs ++ (k, v) ∷ []) ≡ put_entry (put_entries es fs) k v
@@ -176,14 +164,12 @@ pair_added : (r : GatherRule) (ps : List Pair) (p : Pair) → added_pair (gather
 unfolding added_pair gathered_pairs
 pair_added r ps p =
     let own : Grade = own_grade r.kind in
-    same_gathered r _ _ _ _ _ _ _ _
-    (sym (length-append ps (p ∷ [])))
-    refl
+    same_pairs r _ _ _ _
     (put_one_entry (valid_entries ps) (valid_key p.key) (valid_value p.value) ∙ ap merged_entries (sym (entries_more ps p)))
     (pair_tally own (both_in ps) (flat_map pair_errors ps) p
     ∙ ap (λ os. tally_of own os (flat_map pair_errors ps ++ pair_errors p)) (sym (both_more ps p))
     ∙ ap (tally_of own (both_in (ps ++ p ∷ []))) (sym (pairs_more ps p)))
 
-pub pair_held : (g h : Gathered) (name : List ℕ) (k v : Outcome) → h ≡ added_pair g name k v → (r : GatherRule) (ps : List Pair) → g ≡ gathered_pairs r ps
+pub pair_held : (g h : GatheredPairs) (name : List ℕ) (k v : Outcome) → h ≡ added_pair g name k v → (r : GatherRule) (ps : List Pair) → g ≡ gathered_pairs r ps
     → h ≡ gathered_pairs r (ps ++ record { name = name; key = k; value = v } ∷ [])
 pair_held g h name k v after r ps before = after ∙ ap (λ x. added_pair x name k v) before ∙ pair_added r ps (record { name = name; key = k; value = v })

@@ -1,4 +1,5 @@
-ghost use Rattle.std.specs.Prelude.{◌≡◌, ◌++◌, IfOk, OnOk};
+ghost use Rattle.std.specs.Prelude.{◌≡◌, ◌++◌, [], ◌∷◌, IfOk, OnOk};
+ghost use Rattle.pv_fault.specs.Single.{error_here};
 ghost use Rattle.pv_collect.specs.Gathering as spec;
 
 use pv_fault::{Faults, Kind, LineError};
@@ -17,17 +18,6 @@ pub fn type_error(kind: Collection) -> Kind
         Collection::Set => Kind::SetType,
         Collection::Frozen => Kind::FrozenSetType,
         Collection::Dict => Kind::DictType,
-    }
-}
-
-/// An error at the place itself.
-pub(crate) fn error_here(alloc: Global, kind: Kind, input: Tree) -> LineError
-    ensures { result ≡ spec.error_here kind input }
-{
-    LineError {
-        kind,
-        loc: Loc::new(alloc),
-        input,
     }
 }
 
@@ -73,4 +63,12 @@ pub(crate) fn push_all_missing(
         push_missing(alloc, errors, items + more, input)?;
     }
     Ok(())
+}
+
+/// The error of a key that is not hashable, at the key as a text.
+pub(crate) fn push_bad_key(alloc: Global, errors: &mut Faults, name: &Text) -> Result<(), Memory>
+    ensures { OnOk result (errors.new ≡ errors.old ++ error_here Kind.DictKeyNotHashable (Tree.Str name.now) ∷ []) }
+{
+    let key = Tree::Str(name.share(alloc)?);
+    errors.push_here(alloc, Kind::DictKeyNotHashable, &key)
 }

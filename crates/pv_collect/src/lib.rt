@@ -3,10 +3,13 @@
 
 mod errors;
 mod finishing;
-mod gather;
+mod items;
+mod kept;
 mod lengths;
 mod merging;
+mod pairs;
 mod tally;
 
 pub use errors::type_error;
-pub use gather::Gather;
+pub use items::GatherItems;
+pub use pairs::GatherPairs;

@@ -8,7 +8,7 @@ ghost use Rattle.pv_fault.specs.Under.{all_under, all_under_from};
 ghost use Rattle.pv_collect.specs.Gathering as spec;
 ghost use Rattle.pv_collect.specs.State.{Tallied, tallied, tallied_pair, valid_item, valid_key, valid_value};
 
-use crate::errors::error_here;
+use crate::errors::push_bad_key;
 use pv_equality::hashable;
 use pv_fault::{Faults, Grade, Kind, Outcome, add_counts};
 use pv_rules::Collection;
@@ -34,6 +34,16 @@ impl Model for Tally {
     ghost coded = { Prim.hlevel (codes, tree.the_row.coded) };
 
     ghost view = { λ t. record { errors = t.errors; grade = t.grade; count = t.count } };
+}
+
+/// The grade of a collection without parts.
+pub(crate) fn own_grade(kind: Collection) -> Grade
+    ensures { result ≡ spec.own_grade kind }
+{
+    match kind {
+        Collection::List | Collection::Dict => Grade::Exact,
+        Collection::Tuple | Collection::Set | Collection::Frozen => Grade::Strict,
+    }
 }
 
 /// Whether the items of a collection have to be hashable.
@@ -104,8 +114,8 @@ impl Tally {
             return Ok(Some(value));
         }
         drop(value);
-        let error = error_here(alloc, Kind::SetItemNotHashable, input.share(alloc)?);
-        self.errors.push(error)?;
+        self.errors
+            .push_here(alloc, Kind::SetItemNotHashable, input)?;
         Ok(None)
     }
 
@@ -123,7 +133,10 @@ impl Tally {
     {
         let from = self.errors.len();
         let value = self.item_here(alloc, kind, outcome, input)?;
-        self.under(from, Step::Index(place))?;
+        if let Err(memory) = self.under(from, Step::Index(place)) {
+            drop(value);
+            return Err(memory);
+        }
         Ok(value)
     }
 
@@ -143,10 +156,16 @@ impl Tally {
             return Ok(Some(key));
         }
         drop(key);
-        let input = Tree::Str(name.share(alloc)?);
-        self.errors
-            .push(error_here(alloc, Kind::DictKeyNotHashable, input))?;
+        push_bad_key(alloc, &mut self.errors, name)?;
         Ok(None)
+    }
+
+    /// Puts the mark of a key in front of the errors from the place `from` on.
+    fn under_mark(&mut self, alloc: Global, from: usize) -> Result<(), Memory>
+        requires { from ≤ length self.old.errors }
+        ensures { OnOk result (self.new ≡ record self.old { errors = all_under_from from (Name (codes "[key]")) self.old.errors }) }
+    {
+        self.under(from, Step::Name(Text::from_str(alloc, "[key]")?))
     }
 
     /// Notes the outcome of the key of a member, and gives the key that it adds.
@@ -156,8 +175,9 @@ impl Tally {
     {
         let from = self.errors.len();
         let key = self.key_here(alloc, name, outcome)?;
-        if self.errors.len() > from {
-            self.under(from, Step::Name(Text::from_str(alloc, "[key]")?))?;
+        if self.errors.len() > from && let Err(memory) = self.under_mark(alloc, from) {
+            drop(key);
+            return Err(memory);
         }
         Ok(key)
     }
@@ -180,9 +200,20 @@ impl Tally {
         ensures entry { IfOk result (λ e. e ≡ option_zip (valid_key key) (valid_value value)) }
         ensures noted { OnOk result (self.new ≡ tallied (tallied self.old key (all_under (Name (codes "[key]")) (spec.key_errors name.now key))) value (spec.errors_of value)) }
     {
-        let key = self.key(alloc, name, key)?;
-        let value = self.take(value)?;
-        Ok(key.zip(value))
+        let key = match self.key(alloc, name, key) {
+            Ok(key) => key,
+            Err(memory) => {
+                drop(value);
+                return Err(memory);
+            }
+        };
+        match self.take(value) {
+            Ok(value) => Ok(key.zip(value)),
+            Err(memory) => {
+                drop(key);
+                Err(memory)
+            }
+        }
     }
 
     /// Notes the outcomes of a member's key and value, and gives the entry that they add.
@@ -198,7 +229,10 @@ impl Tally {
     {
         let from = self.errors.len();
         let entry = self.pair_here(alloc, name, key, value)?;
-        self.under_name(alloc, from, name)?;
+        if let Err(memory) = self.under_name(alloc, from, name) {
+            drop(entry);
+            return Err(memory);
+        }
         Ok(entry)
     }
 }

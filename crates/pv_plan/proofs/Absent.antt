@@ -8,12 +8,13 @@ use Rattle.pv_node.specs.declared.Body.{out-Body, out-roll-Body}
 use Rattle.pv_node.specs.declared.Body.TheVariants as body
 use Rattle.pv_node.specs.declared.Body.TheVariants.{rolls-Scalar}
 use Rattle.pv_node.specs.declared.Body.TheOpen.{Body-F}
+use Rattle.pv_node.specs.Absent.{any}
 use Rattle.pv_node.specs.Preorder.{preorder, body_of, parts_at}
 use Rattle.pv_node.proofs.Openings.{opens}
 use Rattle.pv_plan.specs.declared.record.Op.{Op}
 use Rattle.pv_plan.specs.declared.record.Op.TheVariants as op
 use Rattle.pv_plan.specs.declared.record.Record.{Record}
-use Rattle.pv_plan.specs.Records.{any, op_at, slots_at, own_strict}
+use Rattle.pv_plan.specs.Records.{op_at, slots_at, own_strict}
 use Rattle.pv_plan.specs.Layout.{numbers, record_at}
 
 any_body : body_of any ≡ Body-F.Scalar rule.Any

@@ -10,7 +10,8 @@ use Rattle.pv_node.specs.declared.Body.TheOpen.{Body-F}
 use Rattle.pv_node.specs.Preorder.{preorder, body_of, parts, parts_at, node_count}
 use Rattle.pv_node.proofs.Openings.{opens}
 use Rattle.pv_plan.proofs.Absent.{alone}
-use Rattle.pv_plan.specs.Records.{Stands, places, slots_at, any, or_any}
+use Rattle.pv_plan.specs.Records.{Stands, places, slots_at}
+use Rattle.pv_node.specs.Absent.{any, or_any}
 use Rattle.pv_plan.specs.Layout.{numbers, record_at, table_from, table_of}
 
 abbrev all_of : List Node → List Node

@@ -11,12 +11,13 @@ use Rattle.pv_node.specs.declared.Body.{Body, out-Body, out-roll-Body}
 use Rattle.pv_node.specs.declared.Body.TheVariants as body
 use Rattle.pv_node.specs.declared.Body.TheVariants.{rolls-Dict}
 use Rattle.pv_node.specs.declared.Body.TheOpen.{Body-F}
+use Rattle.pv_node.specs.Absent.{any}
 use Rattle.pv_node.specs.Preorder.{preorder, body_of, parts, parts_at, optional, node_count, nodes_count}
 use Rattle.pv_node.proofs.Openings.{opens}
 use Rattle.pv_plan.specs.declared.record.Op.{Op}
 use Rattle.pv_plan.specs.declared.record.Op.TheVariants as op
 use Rattle.pv_plan.specs.declared.record.Record.{Record}
-use Rattle.pv_plan.specs.Records.{any, places, op_at, slots_at, own_strict}
+use Rattle.pv_plan.specs.Records.{places, op_at, slots_at, own_strict}
 use Rattle.pv_plan.proofs.Absent.{any_record}
 use Rattle.pv_plan.specs.Layout.{numbers, record_at, table_from, table_of}
 

@@ -1,4 +1,5 @@
--- The first pattern of a schema, in preorder, that the grammar of patterns does not read within its bound on nesting.
+-- The first pattern of a schema, in preorder, that the grammar of patterns does not read within
+-- its bound on nesting.
 use Rattle.std.specs.Prelude.{ℕ, ◌+◌, Bool, true, false, nat_le, if◌then◌else◌, List, [], ◌∷◌, ◌++◌, codes, chars, Option, Some, None}
 use Rattle.regex.specs.Patterns.{default_config}
 use Rattle.regex_syntax.specs.Grammar.{read}
@@ -16,10 +17,12 @@ abbrev pub is_bad : Option (List ℕ) → Bool
 is_bad None = false
 is_bad (Some pattern) = if is_readable pattern then false else true
 
+-- whether a scalar has a pattern that is bad
 abbrev pub rule_is_bad : ScalarRule → Bool
 rule_is_bad (rule.Str r) = is_bad r.pattern
 rule_is_bad _ = false
 
+-- the steps from a node to a place in it
 abbrev pub Path : Type 0
 Path = List Step
 
@@ -28,6 +31,7 @@ abbrev pub behind : Path → Option Path → Option Path
 behind steps None = None
 behind steps (Some path) = Some (steps ++ path)
 
+-- the first of two paths that there is
 abbrev pub first_of : Option Path → Option Path → Option Path
 first_of None other = other
 first_of (Some path) other = Some path
@@ -37,27 +41,39 @@ pub record Search : Type 1 where
   pub path : Option Path
 
 module _ {Y : Type 0} (inner : Y → Option Path) where
+  -- in the node at a place, where there is one
   abbrev pub in_slot : Path → Option Y → Option Path
   in_slot steps None = None
   in_slot steps (Some y) = behind steps (inner y)
 
+  -- in the nodes of positions, from position i on
   abbrev pub in_positions : ℕ → List Y → Option Path
   in_positions i [] = None
-  in_positions i (y ∷ ys) = first_of (behind (Name (codes "items_schema") ∷ Index i ∷ []) (inner y)) (in_positions (i + 1) ys)
+  in_positions i (y ∷ ys) =
+      first_of (behind (Name (codes "items_schema") ∷ Index i ∷ []) (inner y))
+      (in_positions (i + 1) ys)
 
+  -- in a node, by its body
   abbrev pub in_body : {X : Type 0} → Body-F X Y → Option Path
   in_body (Body-F.Scalar r) = if rule_is_bad r then Some (Name (codes "pattern") ∷ []) else None
   in_body (Body-F.Sequence r items) = in_slot (Name (codes "items_schema") ∷ []) items
   in_body (Body-F.Tuple r items) = in_positions 0 items
-  in_body (Body-F.Dict r keys values) = first_of (in_slot (Name (codes "keys_schema") ∷ []) keys) (in_slot (Name (codes "values_schema") ∷ []) values)
+  in_body (Body-F.Dict r keys values) =
+      first_of (in_slot (Name (codes "keys_schema") ∷ []) keys)
+      (in_slot (Name (codes "values_schema") ∷ []) values)
   in_body (Body-F.Nullable n) = behind (Name (codes "schema") ∷ []) (inner n)
 
-abbrev pub body_step : (X Y : Type 0) → (X → Body) → (Y → Node) → (X → Search) → (Y → Search) → Body-F X Y → Search
+-- one level of the search: a body, by the searches in its nodes
+abbrev pub body_step : (X Y : Type 0) → (X → Body) → (Y → Node) → (X → Search) → (Y → Search)
+    → Body-F X Y → Search
 body_step X Y body node bodies nodes b = record { path = in_body (λ y. (nodes y).path) b }
 
-abbrev pub node_step : (X Y : Type 0) → (X → Body) → (Y → Node) → (X → Search) → (Y → Search) → Node-F X Y → Search
+-- one level of the search: a node, by the search in its body
+abbrev pub node_step : (X Y : Type 0) → (X → Body) → (Y → Node) → (X → Search) → (Y → Search)
+    → Node-F X Y → Search
 node_step X Y body node bodies nodes n = bodies n.body
 
+-- the search in a whole schema
 abbrev pub search_in : Node → Search
 search_in = rec-Node Search Search body_step node_step
 

@@ -5,7 +5,8 @@ use Rattle.pv_node.specs.Preorder.{body_of, preorder, node_count}
 use Rattle.pv_plan.specs.Records.{op_at, slots_at, own_strict, places}
 use Rattle.pv_plan.specs.declared.record.Record.{Record}
 
--- The numbers of child schemas that stand one after another, the first at this number. An absent one has the number of the last record.
+-- The numbers of child schemas that stand one after another, the first at this number. An absent
+-- one has the number of the last record.
 abbrev pub numbers : ℕ → ℕ → List (Option Node) → List ℕ
 numbers last at [] = []
 numbers last at (None ∷ slots) = last ∷ numbers last at slots
@@ -25,5 +26,6 @@ unfoldable pub table_from : ℕ → ℕ → List Node → List Record
 table_from last at [] = []
 table_from last at (n ∷ ns) = record_at last at n ∷ table_from last (at + 1) ns
 
+-- the records of a whole schema
 unfoldable pub table_of : Node → List Record
 table_of root = table_from (node_count root) 0 (places root)

@@ -1,12 +1,10 @@
 -- Records that stand for the nodes of a schema.
-use Rattle.std.specs.Prelude.{◌≡◌, ℕ, Bool, false, List, [], ◌∷◌, ◌++◌, map, length, slice_get, Option, Some, None, unwrap_or}
+use Rattle.std.specs.Prelude.{◌≡◌, ℕ, Bool, false, List, [], ◌∷◌, ◌++◌, map, slice_get, Option, Some, unwrap_or}
 use Rattle.pv_rules.specs.Settings.{plain}
-use Rattle.pv_node.specs.declared.Node.{Node, out-Node, roll-Node}
-use Rattle.pv_node.specs.declared.Body.{Body}
-use Rattle.pv_node.specs.declared.Body.TheVariants as body
+use Rattle.pv_node.specs.Absent.{any, or_any}
+use Rattle.pv_node.specs.declared.Node.{Node, out-Node}
 use Rattle.pv_node.specs.declared.Body.TheOpen.{Body-F}
 use Rattle.pv_node.specs.Preorder.{body_of, preorder}
-use Rattle.pv_rules.specs.declared.ScalarRule.TheVariants as rule
 use Rattle.pv_plan.specs.declared.record.Op.{Op}
 use Rattle.pv_plan.specs.declared.record.Op.TheVariants as op
 use Rattle.pv_plan.specs.declared.record.Record.{Record}
@@ -26,14 +24,6 @@ slots_at (Body-F.Sequence r items) = items ∷ []
 slots_at (Body-F.Tuple r items) = map Some items
 slots_at (Body-F.Dict r keys values) = keys ∷ values ∷ []
 slots_at (Body-F.Nullable inner) = Some inner ∷ []
-
--- the node that an absent one stands for
-abbrev pub any : Node
-any = roll-Node (record { own_ref = None; strict = None; body = body.Scalar rule.Any })
-
-abbrev pub or_any : Option Node → Node
-or_any None = any
-or_any (Some n) = n
 
 -- the nodes that a node enters
 abbrev pub children_of : Node → List Node
@@ -56,4 +46,6 @@ pub record Fits (root : Node) (n : Node) (r : Record) : Type 0 where
 
 -- each record stands for the node of its number
 unfoldable pub Stands : Node → List Record → Type 0
-Stands root table = (i : ℕ) (n : Node) → slice_get (places root) i ≡ Some n → (r : Record) × (slice_get table i ≡ Some r) × Fits root n r
+Stands root table =
+    (i : ℕ) (n : Node) → slice_get (places root) i ≡ Some n
+    → (r : Record) × (slice_get table i ≡ Some r) × Fits root n r

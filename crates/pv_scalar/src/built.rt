@@ -61,12 +61,12 @@ impl Scalar {
         ensures buildable { OnOk result (IsBuildable rule.now) }
         ensures syntax { IfErr result (λ e. e ≡ PatternFault.Syntax → ¬ IsBuildable rule.now) }
     {
-        match body_of(alloc, rule) {
-            Ok(body) => match settings.copy(alloc) {
-                Ok(settings) => Ok(Scalar { body, settings }),
-                Err(Memory) => Err(PatternFault::Memory),
+        match settings.copy(alloc) {
+            Ok(settings) => match body_of(alloc, rule) {
+                Ok(body) => Ok(Scalar { body, settings }),
+                Err(fault) => Err(fault),
             },
-            Err(fault) => Err(fault),
+            Err(Memory) => Err(PatternFault::Memory),
         }
     }
 }
