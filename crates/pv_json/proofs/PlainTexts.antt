@@ -29,7 +29,7 @@ pub plain_next : (bs : List ℕ) (i : ℕ) → i < length bs → 32 ≤ get_or b
 unfolding plain
 plain_next bs i l low high p q =
     ap plain (drop_more bs i 0 l)
-    ∙ rw (le-ltb (get_or bs i 0) 32 low, lt-leb (get_or bs i 0) 128 high, not_same (get_or bs i 0) 34 p, not_same (get_or bs i 0) 92 q) refl
+    ∙ rw (le-ltb (get_or bs i 0) 32 low, lt-leb 128 (get_or bs i 0) high, not_same (get_or bs i 0) 34 p, not_same (get_or bs i 0) 92 q) refl
 
 -- a string that is written as it is
 pub plain_string : (bs : List ℕ) (n : ℕ) → n < length bs → get_or bs n 0 ≡ 34 → flat_map escaped (take n bs) ≡ take n bs → IsUtf8 (take n bs)

@@ -6,11 +6,7 @@ ghost use Rattle.pv_notation.specs.Strings.{escaped};
 ghost use Rattle.pv_json_grammar.specs.Strings as spec;
 
 /// How many bytes of ASCII stand for themselves from here on.
-#[tactic(
-    auto,
-    using(crate::proofs::PlainTexts::ascii_text, crate::proofs::PlainTexts::plain_more),
-    unfolding(pv_json_grammar::specs::Strings::plain)
-)]
+#[tactic(auto, using(crate::proofs::PlainTexts::ascii_text, crate::proofs::PlainTexts::plain_more), unfolding(pv_json_grammar::specs::Strings::plain))]
 pub(crate) fn ascii_len(s: &[u8]) -> usize
     ensures value { result ≡ spec.plain s.now }
     ensures within { result ≤ length s.now }

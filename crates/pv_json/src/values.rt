@@ -86,11 +86,7 @@ fn array<'a>(alloc: Global, nesting: usize, s: &Rest<'a>) -> Result<(Tree, Rest<
 
 /// One item or more, the closing bracket, and what follows it.
 #[cycle(value)]
-#[tactic(
-    auto,
-    using(crate::proofs::Steps::several_step),
-    unfolding(pv_json_grammar::specs::Values::several)
-)]
+#[tactic(auto, using(crate::proofs::Steps::several_step), unfolding(pv_json_grammar::specs::Values::several))]
 fn items<'a>(alloc: Global, nesting: usize, s: &Rest<'a>) -> Result<(Tree, Rest<'a>), ReadError>
     ensures { Gives (λ x. (x.0, x.1)) result
         (spec.items (spec.value nesting) (length s.now) [] s.now) }
@@ -149,11 +145,7 @@ fn object<'a>(alloc: Global, nesting: usize, s: &Rest<'a>) -> Result<(Tree, Rest
 
 /// One member or more, the closing brace, and what follows it.
 #[cycle(value)]
-#[tactic(
-    auto,
-    using(crate::proofs::Steps::several_step),
-    unfolding(pv_json_grammar::specs::Values::several)
-)]
+#[tactic(auto, using(crate::proofs::Steps::several_step), unfolding(pv_json_grammar::specs::Values::several))]
 fn members<'a>(alloc: Global, nesting: usize, s: &Rest<'a>) -> Result<(Tree, Rest<'a>), ReadError>
     ensures { Gives (λ x. (x.0, x.1)) result
         (spec.members (spec.value nesting) (length s.now) [] s.now) }

@@ -31,7 +31,7 @@ raw [] = Err 0
 raw (b ∷ bs) =
     if nat_lt b 194 || nat_lt 244 b then Err (length bs + 1)
     else byte_in (second_least b) (second_most b) bs >>= λ c.
-        if nat_lt b 224 then Ok (b ∷ c.0 ∷ [], c.1) else raw_third b c.0 c.1
+    if nat_lt b 224 then Ok (b ∷ c.0 ∷ [], c.1) else raw_third b c.0 c.1
 
 -- what a hexadecimal digit counts, and 16 for no digit: 0 to 9, A to F, a to f
 unfoldable pub hex_value : ℕ → ℕ
