@@ -64,7 +64,8 @@ pub record Checked : Type 1 where
 
 -- what is wrong with it as a value of a kind, by what is wrong with it as a schema
 abbrev pub faults_as : Kind → Tree → List Refusal → List Refusal → List Refusal
-faults_as (kind.Value v) t schema schemas = if is_value v t then [] else refused (Shape BadValue) ∷ []
+faults_as (kind.Value v) t schema schemas =
+    if is_value v t then [] else refused (Shape BadValue) ∷ []
 faults_as kind.Schema t schema schemas = schema
 faults_as kind.Schemas t schema schemas = schemas
 faults_as kind.NotBuilt t schema schemas = refused NotYet ∷ []

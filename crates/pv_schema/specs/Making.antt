@@ -16,7 +16,8 @@ use Rattle.pv_rules.specs.declared.Collection.{Collection}
 use Rattle.pv_rules.specs.declared.Collection.TheVariants as collection
 use Rattle.pv_rules.specs.declared.ScalarRule.TheVariants as rule
 use Rattle.pv_schema_values.specs.Values.{text_of, flag_of, int_of, count_of, positive_of}
-use Rattle.pv_schema_values.specs.Values.{version_of, texts_of, literals_of, members_of, sub_type_of}
+use Rattle.pv_schema_values.specs.Values.{version_of, texts_of, literals_of, members_of}
+use Rattle.pv_schema_values.specs.Values.{sub_type_of}
 use Rattle.pv_schema.specs.Find.{find}
 use Rattle.pv_schema.specs.Checking.{type_in, type_among}
 use Rattle.pv_schema.specs.declared.fault.Refusal.{Refusal}

@@ -22,12 +22,9 @@ use std::alloc::Global;
 
 /// The schema under a key.
 #[cycle(make)]
-fn make_child(
-    alloc: Global,
-    members: &Members,
-    key: &str,
-) -> Result<Option<Boxed<Node>>, Memory>
-    ensures { IfOk result (λ node. node ≡ option_map spec.node_of (find key.now members.now.members)) }
+fn make_child(alloc: Global, members: &Members, key: &str) -> Result<Option<Boxed<Node>>, Memory>
+    ensures { IfOk result (λ node. node
+        ≡ option_map spec.node_of (find key.now members.now.members)) }
 {
     for (name, value) in members.as_slice() {
         if key == name.as_str() {

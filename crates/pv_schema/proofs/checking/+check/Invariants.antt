@@ -4,7 +4,7 @@ use Rattle.pv_schema.specs.Checking as spec
 use Rattle.pv_schema.proofs.checking.+check.Given as goal
 
 abbrev pub invariant-check_keys-loop-name : goal.invariant-check_keys-loop-name
-invariant-check_keys-loop-name l = 
+invariant-check_keys-loop-name l =
     flat_map (spec.member_faults l.node_type) (drop l.name-index l.name-items) ≡ flat_map (spec.member_faults l.node_type) l.members.members
 
 abbrev pub invariant-check_items-loop-place : goal.invariant-check_items-loop-place
