@@ -6,8 +6,9 @@ use Rattle.pv_fault.specs.declared.Outcome.{Outcome}
 use Rattle.pv_node.specs.declared.Node.{Node}
 use Rattle.pv_node.specs.declared.Body.{Body}
 use Rattle.pv_node.specs.declared.Body.TheOpen.{Body-F}
+use Rattle.pv_node.specs.Absent.{or_any}
 use Rattle.pv_node.specs.Preorder.{body_of}
-use Rattle.pv_plan.specs.Records.{Stands, places, op_at, slots_at, or_any, own_strict, children_of}
+use Rattle.pv_plan.specs.Records.{Stands, places, op_at, slots_at, own_strict, children_of}
 use Rattle.pv_plan.specs.declared.Op.{Op}
 use Rattle.pv_plan.specs.declared.Record.{Record}
 use Rattle.pv_engine.specs.Rules.{collection}

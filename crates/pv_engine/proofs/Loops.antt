@@ -4,12 +4,12 @@ use Rattle.std.specs.Option.{option_map}
 use Rattle.std.proofs.lemmas.List.{drop_more}
 use Rattle.pv_text.specs.declared.Memory.{Memory}
 use Rattle.pv_tree.specs.declared.Tree.{Tree, out-Tree}
-use Rattle.pv_tree.specs.declared.Tree.TheOpen.{Tree-F}
+use Rattle.pv_tree.specs.Parts.{items_at}
 use Rattle.pv_fault.specs.declared.Outcome.{Outcome}
 use Rattle.pv_rules.specs.declared.GatherRule.{GatherRule}
 use Rattle.pv_collect.specs.Gathering.{Part, Pair, gather_items, gather_pairs}
-use Rattle.pv_collect.specs.State.{Gathered, gathered_items, gathered_pairs}
-use Rattle.pv_engine.specs.Rules.{Child, items_of, members_of, part, placed, placed_by, position_of}
+use Rattle.pv_collect.specs.State.{GatheredItems, GatheredPairs, gathered_items, gathered_pairs}
+use Rattle.pv_engine.specs.Rules.{Child, part, placed, placed_by, position_of}
 
 pub deeper : {X : Type 0} (f : ℕ → X) (n : ℕ) → 0 < n → f n ≡ f (suc (n - 1))
 deeper f n some = let e : n ≡ suc (n - 1) = omega arith in ap f e
@@ -62,34 +62,26 @@ module _ (r : GatherRule) (children : List Child) (items : ℕ) where
       take_whole ps i (rest ∙ ap (placed r children items i) next ∙ ap (λ o. placed_by o t (placed r children items (i + 1) (drop (i + 1) ts))) child)
 
 -- a gather after one more item
-pub item_more : (old new : Gathered) (r : GatherRule) (ps qs : List Part) (t : Tree) (o : Outcome) (f : Child) → qs ≡ ps ++ part f t ∷ [] → o ≡ f t → old ≡ gathered_items r ps
+pub item_more : (old new : GatheredItems) (r : GatherRule) (ps qs : List Part) (t : Tree) (o : Outcome) (f : Child) → qs ≡ ps ++ part f t ∷ [] → o ≡ f t → old ≡ gathered_items r ps
     → ((rule : GatherRule) (all : List Part) → old ≡ gathered_items rule all → new ≡ gathered_items rule (all ++ record { input = t; outcome = o } ∷ [])) → new ≡ gathered_items r qs
 item_more old new r ps qs t o f grown e before now =
     now r ps before ∙ ap (λ x. gathered_items r (ps ++ record { input = t; outcome = x } ∷ [])) e ∙ ap (gathered_items r) (sym grown)
 
-array : (x : Tree-F Tree) (ts : List Tree) → Some ts ≡ items_of x → x ≡ Tree-F.Array ts
-array (Tree-F.Array us) ts e = let same : us ≡ ts = cc in ap Tree-F.Array same
-array x ts e = absurd cc
-
-object : (x : Tree-F Tree) (ms : List (List ℕ × Tree)) → Some ms ≡ members_of x → x ≡ Tree-F.Object ms
-object (Tree-F.Object ns) ms e = let same : ns ≡ ms = cc in ap Tree-F.Object same
-object x ms e = absurd cc
-
 -- what a gather of these parts finishes with
-pub finished : (r : Result Outcome Memory) (g : Gathered) (input : Tree) (ts : List Tree) (rule : GatherRule) (ps : List Part) (whole : Outcome)
-    → Some ts ≡ items_of (out-Tree input) → g ≡ gathered_items rule ps → gather_items rule (length ts) input ps ≡ whole
-    → IfOk r (λ o. (us : List Tree) (other : GatherRule) (qs : List Part) → out-Tree input ≡ Tree-F.Array us → g ≡ gathered_items other qs → o ≡ gather_items other (length us) input qs)
+pub finished : (r : Result Outcome Memory) (g : GatheredItems) (input : Tree) (ts : List Tree) (rule : GatherRule) (ps : List Part) (whole : Outcome)
+    → Some ts ≡ items_at (out-Tree input) → g ≡ gathered_items rule ps → gather_items rule (length ts) input ps ≡ whole
+    → IfOk r (λ o. (us : List Tree) (other : GatherRule) (qs : List Part) → items_at (out-Tree input) ≡ Some us → g ≡ gathered_items other qs → o ≡ gather_items other (length us) input qs)
     → IfOk r (λ o. o ≡ whole)
-finished (Ok o) g input ts rule ps whole e f same given = given ts rule ps (array (out-Tree input) ts e) f ∙ same
+finished (Ok o) g input ts rule ps whole e f same given = given ts rule ps (sym e) f ∙ same
 finished (Err m) g input ts rule ps whole e f same given = given
 
 -- what a gather of these pairs finishes with
-pub pairs_finished : (r : Result Outcome Memory) (g : Gathered) (input : Tree) (ms : List (List ℕ × Tree)) (rule : GatherRule) (ps : List Pair) (whole : Outcome)
-    → Some ms ≡ members_of (out-Tree input) → g ≡ gathered_pairs rule ps → gather_pairs rule input ps ≡ whole
-    → IfOk r (λ o. (ns : List (List ℕ × Tree)) (other : GatherRule) (qs : List Pair) → out-Tree input ≡ Tree-F.Object ns → g ≡ gathered_pairs other qs → o ≡ gather_pairs other input qs)
+pub pairs_finished : (r : Result Outcome Memory) (g : GatheredPairs) (input : Tree) (rule : GatherRule) (ps : List Pair) (whole : Outcome)
+    → g ≡ gathered_pairs rule ps → gather_pairs rule input ps ≡ whole
+    → IfOk r (λ o. (other : GatherRule) (qs : List Pair) → g ≡ gathered_pairs other qs → o ≡ gather_pairs other input qs)
     → IfOk r (λ o. o ≡ whole)
-pairs_finished (Ok o) g input ms rule ps whole e f same given = given ms rule ps (object (out-Tree input) ms e) f ∙ same
-pairs_finished (Err m) g input ms rule ps whole e f same given = given
+pairs_finished (Ok o) g input rule ps whole e same given = given rule ps e ∙ same
+pairs_finished (Err m) g input rule ps whole e same given = given
 
 pub ok_same : (r : Result Outcome Memory) (o p : Outcome) → o ≡ p → IfOk r (λ q. q ≡ o) → IfOk r (λ q. q ≡ p)
 ok_same (Ok q) o p e h = h ∙ e

@@ -1,11 +1,11 @@
 //! The records of a plan at a depth.
 
 ghost use Rattle.std.specs.Prelude.{◌≡◌, IfOk};
+ghost use Rattle.pv_engine.specs.Rules.{no_child};
 ghost use Rattle.pv_engine.specs.Run.{given};
 
-use crate::one_error::too_deep;
 use crate::rules::Rules;
-use pv_fault::Outcome;
+use pv_fault::{Kind, Outcome, one_error};
 use pv_plan::Record;
 use pv_text::Memory;
 use pv_tree::Tree;
@@ -20,6 +20,13 @@ pub(crate) struct Level<'a> {
     pub(crate) run: Option<bool>,
     /// At most so many nodes are still entered below one another.
     pub(crate) depth: u64,
+}
+
+/// The tree was not looked at: at most so many nodes are entered below one another.
+pub(crate) fn too_deep(alloc: Global, tree: &Tree) -> Result<Outcome, Memory>
+    ensures { IfOk result (λ o. o ≡ no_child tree.now) }
+{
+    one_error(alloc, Kind::RecursionLoop, tree)
 }
 
 /// What the record of a number gives for a tree, at a level.

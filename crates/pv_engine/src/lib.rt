@@ -3,8 +3,6 @@
 
 mod laws;
 mod level;
-mod one_error;
-mod parts;
 mod positions;
 mod rules;
 mod validating;

@@ -8,12 +8,10 @@ ghost use Rattle.pv_engine.specs.Run.{given};
 ghost use Rattle.pv_engine.specs.Meaning.{strict_in};
 ghost use Rattle.pv_engine.specs.Nests.{Nests};
 
-use crate::level::Level;
-use crate::one_error::{one_error, too_deep};
-use crate::parts::{is_null, items_of, members_of};
+use crate::level::{Level, too_deep};
 use crate::positions::position_of;
-use pv_collect::{Gather, type_error};
-use pv_fault::{Grade, Outcome};
+use pv_collect::{GatherItems, GatherPairs, type_error};
+use pv_fault::{Grade, Outcome, one_error};
 use pv_plan::{Op, Record};
 use pv_rules::{Collection, GatherRule};
 use pv_scalar::scalar;
@@ -62,8 +60,7 @@ impl<'a, F: Fn(&Level<'a>, u32, &Tree) -> Result<Outcome, Memory>> Rules<'a, F> 
     fn wrong_type(&self, rule: &GatherRule, tree: &Tree) -> Result<Outcome, Memory>
         ensures { IfOk result (λ o. o ≡ gives.wrong_type rule.now tree.now) }
     {
-        let input = tree.share(self.below.alloc)?;
-        one_error(self.below.alloc, type_error(rule.kind), input)
+        one_error(self.below.alloc, type_error(rule.kind), tree)
     }
 
     #[tactic(auto, unfolding(crate::specs::Rules::sequence))]
@@ -72,10 +69,10 @@ impl<'a, F: Fn(&Level<'a>, u32, &Tree) -> Result<Outcome, Memory>> Rules<'a, F> 
         ensures { IfOk result (λ o. o ≡ gives.sequence rule.now
             (gives.first (map (given self.now.below) children.now)) tree.now) }
     {
-        let Some(items) = items_of(tree) else {
+        let Some(items) = tree.as_array() else {
             return self.wrong_type(rule, tree);
         };
-        let mut gather = Gather::new(self.below.alloc, rule);
+        let mut gather = GatherItems::new(self.below.alloc, rule);
         for item in items {
             let outcome = self.first(children, item)?;
             gather = gather.item(outcome, item)?;
@@ -101,10 +98,10 @@ impl<'a, F: Fn(&Level<'a>, u32, &Tree) -> Result<Outcome, Memory>> Rules<'a, F> 
         ensures { IfOk result (λ o.
             o ≡ gives.tuple rule.now (map (given self.now.below) children.now) tree.now) }
     {
-        let Some(items) = items_of(tree) else {
+        let Some(items) = tree.as_array() else {
             return self.wrong_type(rule, tree);
         };
-        let mut gather = Gather::new(self.below.alloc, rule);
+        let mut gather = GatherItems::new(self.below.alloc, rule);
         let count = items.len() as u64;
         for (place, item) in items.iter().enumerate() {
             let Some(number) = self.taker(rule, children, count, place as u64) else {
@@ -139,8 +136,13 @@ impl<'a, F: Fn(&Level<'a>, u32, &Tree) -> Result<Outcome, Memory>> Rules<'a, F> 
             (gives.second (map (given self.now.below) children.now)) (name.now, value.now)) }
     {
         let key = self.key(children, name)?;
-        let value = self.second(children, value)?;
-        Ok((key, value))
+        match self.second(children, value) {
+            Ok(value) => Ok((key, value)),
+            Err(memory) => {
+                drop(key);
+                Err(memory)
+            }
+        }
     }
 
     #[tactic(auto, unfolding(crate::specs::Rules::dict))]
@@ -150,10 +152,10 @@ impl<'a, F: Fn(&Level<'a>, u32, &Tree) -> Result<Outcome, Memory>> Rules<'a, F> 
             (gives.first (map (given self.now.below) children.now))
             (gives.second (map (given self.now.below) children.now)) tree.now) }
     {
-        let Some(members) = members_of(tree) else {
+        let Some(members) = tree.as_object() else {
             return self.wrong_type(rule, tree);
         };
-        let mut gather = Gather::new(self.below.alloc, rule);
+        let mut gather = GatherPairs::new(self.below.alloc, rule);
         for (name, value) in members {
             let (key, value) = self.member(children, name, value)?;
             gather = gather.pair(name, key, value)?;
@@ -187,7 +189,7 @@ impl<'a, F: Fn(&Level<'a>, u32, &Tree) -> Result<Outcome, Memory>> Rules<'a, F> 
         ensures { IfOk result (λ o.
             o ≡ gives.nullable (gives.first (map (given self.now.below) children.now)) tree.now) }
     {
-        if is_null(tree) {
+        if tree.is_null() {
             return Ok(Outcome::Good {
                 value: Value::None,
                 grade: Grade::Exact,

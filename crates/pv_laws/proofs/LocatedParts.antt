@@ -5,6 +5,7 @@ use Rattle.std.specs.Option.{IfSome}
 use Rattle.pv_tree.specs.declared.Step.{Step}
 use Rattle.pv_tree.specs.declared.Step.TheVariants.{Name, Index}
 use Rattle.pv_tree.specs.declared.Tree.{Tree, out-Tree, out-roll-Tree}
+use Rattle.pv_tree.specs.Names.{Distinct}
 use Rattle.pv_tree.specs.declared.Tree.TheVariants as tree
 use Rattle.pv_tree.specs.declared.Tree.TheVariants.{rolls-Str}
 use Rattle.pv_tree.specs.declared.Tree.TheOpen.{Tree-F}
@@ -16,7 +17,8 @@ use Rattle.pv_fault.specs.declared.Outcome.{Outcome}
 use Rattle.pv_fault.specs.declared.Outcome.TheVariants.{Good, Bad}
 use Rattle.pv_fault.specs.Under.{under, all_under}
 use Rattle.pv_equality.specs.Hashable.{hashable}
-use Rattle.pv_collect.specs.Gathering.{Part, needs_hash, errors_of, error_here, item_errors, items_errors, key_errors, pair_errors, missing_from, missing_of}
+use Rattle.pv_fault.specs.Single.{error_here}
+use Rattle.pv_collect.specs.Gathering.{Part, needs_hash, errors_of, item_errors, items_errors, key_errors, pair_errors, missing_from, missing_of}
 use Rattle.pv_engine.specs.Rules.{Child, part, position_of, placed, placed_by, pair}
 use Rattle.pv_laws.proofs.Each.{each_append, each_map, each_more, found_is}
 use Rattle.pv_laws.specs.Located.{IsPart, IsLacking, IsKey, IsLocated, IsOutcomeOf}
@@ -139,21 +141,21 @@ key_located : (name : List ℕ) (o : Outcome) → IsOutcomeOf (tree.Str name) o 
 key_located name (Good v g n) h = one_unless (hashable v) (tree.Str name) _
 key_located name (Bad es) h = h.located
 
-module _ (t : Tree) (all : List (List ℕ × Tree)) (opens : out-Tree t ≡ Tree-F.Object all) where
+module _ (t : Tree) (d : Distinct Tree) (opens : out-Tree t ≡ Tree-F.Object d) where
   -- an error in the text of a key, under its mark and its name
-  is_key : (m : List ℕ × Tree) → Contains all m → (e : LineError) → IsAt (tree.Str m.0) e → IsAt t (under (Name m.0) (under (Name (codes "[key]")) e))
+  is_key : (m : List ℕ × Tree) → Contains d.members m → (e : LineError) → IsAt (tree.Str m.0) e → IsAt t (under (Name m.0) (under (Name (codes "[key]")) e))
   unfolding IsLocated
   is_key m within e h =
       let p = at_text m.0 e.loc e.input h in
       let mark = Name (codes "[key]") in
-      inr (inr (subst (λ x. IsKey (Name m.0 ∷ mark ∷ e.loc) x e.input) (sym opens) (subst (λ loc. IsKey (Name m.0 ∷ mark ∷ loc) (Tree-F.Object all) e.input) (sym p.0) (refl, p.1, (m.1, within)))))
+      inr (inr (subst (λ x. IsKey (Name m.0 ∷ mark ∷ e.loc) x e.input) (sym opens) (subst (λ loc. IsKey (Name m.0 ∷ mark ∷ loc) (Tree-F.Object d) e.input) (sym p.0) (refl, p.1, (m.1, within)))))
 
   -- an error in the value of a member, under its name
-  is_value : (m : List ℕ × Tree) → Contains all m → (e : LineError) → IsAt m.1 e → IsAt t (under (Name m.0) e)
+  is_value : (m : List ℕ × Tree) → Contains d.members m → (e : LineError) → IsAt m.1 e → IsAt t (under (Name m.0) e)
   unfolding IsLocated
   is_value m within e h = inl (m.1, subst (λ x. IsPart (Name m.0) x m.1) (sym opens) within, h)
 
-  pair_located : (key value : Child) → Locates key → Locates value → (m : List ℕ × Tree) → Contains all m → AllByRecursion (IsAt t) (pair_errors (pair key value m))
+  pair_located : (key value : Child) → Locates key → Locates value → (m : List ℕ × Tree) → Contains d.members m → AllByRecursion (IsAt t) (pair_errors (pair key value m))
   pair_located key value keys values m within =
       let at = under (Name m.0) in
       let mark = under (Name (codes "[key]")) in
@@ -165,7 +167,7 @@ module _ (t : Tree) (all : List (List ℕ × Tree)) (opens : out-Tree t ≡ Tree
       (each_map there mark key_part (each_more (IsAt (tree.Str m.0)) (λ e. there (mark e)) (is_key m within) key_part (key_located m.0 (key (tree.Str m.0)) (keys (tree.Str m.0)))))
       (each_more (IsAt m.1) there (is_value m within) value_part (errors_located m.1 (value m.1) (values m.1))))
 
-  pub pairs_located : (key value : Child) → Locates key → Locates value → (ms : List (List ℕ × Tree)) → AllByRecursion (Contains all) ms
+  pub pairs_located : (key value : Child) → Locates key → Locates value → (ms : List (List ℕ × Tree)) → AllByRecursion (Contains d.members) ms
       → AllByRecursion (IsAt t) (flat_map pair_errors (map (pair key value) ms))
   pairs_located key value keys values [] within = tt
   pairs_located key value keys values (m ∷ ms) within =

@@ -4,6 +4,7 @@ use Rattle.std.proofs.lemmas.List.Elements.{All-contains_itself, recursion_from_
 use Rattle.std.specs.List.{AllByRecursion, Contains}
 use Rattle.pv_tree.specs.declared.Tree.{Tree, out-Tree}
 use Rattle.pv_tree.specs.declared.Tree.TheOpen.{Tree-F}
+use Rattle.pv_tree.specs.Parts.{items_at, members_at, null_at}
 use Rattle.pv_tree.specs.declared.Value.{Value}
 use Rattle.pv_rules.specs.Settings.{plain}
 use Rattle.pv_rules.specs.declared.Collection.{Collection}
@@ -13,15 +14,17 @@ use Rattle.pv_fault.specs.declared.Kind.{Kind}
 use Rattle.pv_fault.specs.declared.LineError.{LineError}
 use Rattle.pv_fault.specs.declared.Kind.TheVariants as kind
 use Rattle.pv_fault.specs.declared.Outcome.{Outcome}
+use Rattle.pv_fault.specs.Single.{one_error}
 use Rattle.pv_node.specs.declared.Node.{Node}
 use Rattle.pv_node.specs.declared.Body.{Body}
 use Rattle.pv_node.specs.declared.Body.TheOpen.{Body-F}
+use Rattle.pv_node.specs.Absent.{or_any}
 use Rattle.pv_node.specs.Preorder.{body_of}
-use Rattle.pv_plan.specs.Records.{or_any, own_strict}
+use Rattle.pv_plan.specs.Records.{own_strict}
 use Rattle.pv_scalar.specs.Tests.{Graded, outcome_of}
 use Rattle.pv_scalar.specs.Scalars.{scalar_of, answer_of}
 use Rattle.pv_collect.specs.Gathering.{Part, Pair, items_errors, missing_of, wanted, measured, unless_errors, type_error, pair_errors, gather_items, gather_pairs}
-use Rattle.pv_engine.specs.Rules.{Child, one_error, part, placed, pair, items_of, members_of, is_null, sequence, sequence_in, tuple, tuple_in, dict, dict_in, first, second, collection, collection_of, nullable, nullable_in}
+use Rattle.pv_engine.specs.Rules.{Child, part, placed, pair, sequence, sequence_in, tuple, tuple_in, dict, dict_in, first, second, collection, collection_of, nullable, nullable_in}
 use Rattle.pv_engine.specs.Meaning.{meaning, node, node_at, strict_in}
 use Rattle.pv_laws.specs.Located.{IsOutcomeOf}
 use Rattle.pv_laws.proofs.Each.{each_append}
@@ -52,19 +55,20 @@ unfolding gather_pairs
 object_located r t ps are = unless_located t (flat_map pair_errors ps) _ are (search measured_located)
 
 -- a tree by its opened level
-sequence_located : (r : GatherRule) (item : Child) → Locates item → (t : Tree) (x : Tree-F Tree) → out-Tree t ≡ x → IsOutcomeOf t (sequence_in r item t (items_of x))
+sequence_located : (r : GatherRule) (item : Child) → Locates item → (t : Tree) (x : Tree-F Tree) → out-Tree t ≡ x → IsOutcomeOf t (sequence_in r item t (items_at x))
 sequence_located r item is t (Tree-F.Array ts) opens =
     array_located r t ts (map (part item) ts) opens (sequence_parts t ts opens item is 0 ts (λ j k e. ap (slice_get ts) (omega arith)))
 sequence_located r item is t x opens = one_located (type_error r.kind) t
 
-tuple_located : (r : GatherRule) (children : List Child) → AllByRecursion Locates children → (t : Tree) (x : Tree-F Tree) → out-Tree t ≡ x → IsOutcomeOf t (tuple_in r children t (items_of x))
+tuple_located : (r : GatherRule) (children : List Child) → AllByRecursion Locates children → (t : Tree) (x : Tree-F Tree) → out-Tree t ≡ x → IsOutcomeOf t (tuple_in r children t (items_at x))
 tuple_located r children are t (Tree-F.Array ts) opens =
     array_located r t ts (placed r children (length ts) 0 ts) opens (tuple_parts t ts opens r children are (length ts) 0 ts (λ j k e. ap (slice_get ts) (omega arith)))
 tuple_located r children are t x opens = one_located (type_error r.kind) t
 
-dict_located : (r : GatherRule) (key value : Child) → Locates key → Locates value → (t : Tree) (x : Tree-F Tree) → out-Tree t ≡ x → IsOutcomeOf t (dict_in r key value t (members_of x))
-dict_located r key value keys values t (Tree-F.Object ms) opens =
-    object_located r t (map (pair key value) ms) (pairs_located t ms opens key value keys values ms (recursion_from_All (Contains ms) ms (All-contains_itself ms)))
+dict_located : (r : GatherRule) (key value : Child) → Locates key → Locates value → (t : Tree) (x : Tree-F Tree) → out-Tree t ≡ x → IsOutcomeOf t (dict_in r key value t (members_at x))
+dict_located r key value keys values t (Tree-F.Object d) opens =
+    let ms = d.members in
+    object_located r t (map (pair key value) ms) (pairs_located t d opens key value keys values ms (recursion_from_All (Contains ms) ms (All-contains_itself ms)))
 dict_located r key value keys values t x opens = one_located (type_error r.kind) t
 
 -- a child that is not there gives one error too
@@ -88,7 +92,7 @@ collection_located : (r : GatherRule) (children : List Child) → AllByRecursion
 unfolding collection
 collection_located r = by_kind r.kind r
 
-nullable_located : (inner : Child) → Locates inner → (t : Tree) (x : Tree-F Tree) → IsOutcomeOf t (nullable_in inner t (is_null x))
+nullable_located : (inner : Child) → Locates inner → (t : Tree) (x : Tree-F Tree) → IsOutcomeOf t (nullable_in inner t (null_at x))
 nullable_located inner is t Tree-F.Null = tt
 nullable_located inner is t x = is t
 

@@ -13,7 +13,7 @@ use Rattle.pv_fault.specs.declared.Outcome.TheVariants.{Good, Bad}
 -- the step leads from a tree to a part of it: an item, or the value of a member
 abbrev pub IsPart : Step → Tree-F Tree → Tree → Type 0
 IsPart (Index i) (Tree-F.Array ts) part = slice_get ts i ≡ Some part
-IsPart (Name k) (Tree-F.Object ms) part = Contains ms (k, part)
+IsPart (Name k) (Tree-F.Object d) part = Contains d.members (k, part)
 IsPart step x part = ⊥
 
 -- the location is that of an item which an array lacks
@@ -23,10 +23,13 @@ IsLacking loc x = ⊥
 
 -- the location is that of the key of a member, which is this text
 abbrev pub IsKey : List Step → Tree-F Tree → Tree → Type 0
-IsKey (Name k ∷ mark ∷ []) (Tree-F.Object ms) input = (mark ≡ Name (codes "[key]")) × (input ≡ tree.Str k) × ((part : Tree) × Contains ms (k, part))
+IsKey (Name k ∷ mark ∷ []) (Tree-F.Object d) input =
+    (mark ≡ Name (codes "[key]")) × (input ≡ tree.Str k)
+    × ((part : Tree) × Contains d.members (k, part))
 IsKey loc x input = ⊥
 
--- The location leads from the document to the input. At its end stands, in place of a part, the whole array where an item is lacking, or the text of a member's key.
+-- The location leads from the document to the input. At its end stands, in place of a part, the
+-- whole array where an item is lacking, or the text of a member's key.
 unfoldable pub IsLocated : List Step → Tree → Tree → Type 0
 IsLocated [] document input = input ≡ document
 IsLocated (step ∷ loc) document input =
@@ -39,6 +42,7 @@ pub record AreErrorsOf (document : Tree) (errors : List LineError) : Type 0 wher
   pub some : 1 ≤ length errors
   pub located : AllByRecursion (λ e. IsLocated e.loc document e.input) errors
 
+-- an outcome that has no errors, or whose errors are those of the document
 abbrev pub IsOutcomeOf : Tree → Outcome → Type 0
 IsOutcomeOf document (Good v g n) = Unit {0}
 IsOutcomeOf document (Bad errors) = AreErrorsOf document errors

@@ -13,5 +13,6 @@ HasGoodPatternAt (Body-F.Tuple r items) = Unit {0}
 HasGoodPatternAt (Body-F.Dict r keys values) = Unit {0}
 HasGoodPatternAt (Body-F.Nullable inner) = Unit {0}
 
+-- the node has no pattern, or a good one
 abbrev pub HasGoodPattern : Node → Type 0
 HasGoodPattern n = HasGoodPatternAt (body_of n)

@@ -16,5 +16,5 @@ returns g c =
     let members = c.in-Some.members.now in
     let held : c.loop-name.gather ≡ gathered_pairs rule (map (pair key value) members) =
     c.loop-name.invariant ∙ ap (λ ms. gathered_pairs rule (map (pair key value) ms)) (take_all c.loop-name.name-index members c.loop-name-test.false) in
-    pairs_finished c.finish.result c.loop-name.gather c.args.tree.now members rule (map (pair key value) members) (dict rule key value c.args.tree.now) c.in-Some.ensures held
-    (ap (dict_in rule key value c.args.tree.now) c.in-Some.ensures) c.finish.ensures.pairs
+    pairs_finished c.finish.result c.loop-name.gather c.args.tree.now rule (map (pair key value) members) (dict rule key value c.args.tree.now) held
+    (ap (dict_in rule key value c.args.tree.now) c.in-Some.ensures) c.finish.ensures

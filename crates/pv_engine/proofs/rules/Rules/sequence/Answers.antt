@@ -15,4 +15,4 @@ returns g c =
     let held : c.loop-item.gather ≡ gathered_items rule (map (part child) items) =
     c.loop-item.invariant ∙ ap (λ ts. gathered_items rule (map (part child) ts)) (take_all c.loop-item.item-index items c.loop-item-test.false) in
     finished c.finish.result c.loop-item.gather c.args.tree.now items rule (map (part child) items) (sequence rule child c.args.tree.now) c.in-Some.ensures held
-    (ap (sequence_in rule child c.args.tree.now) c.in-Some.ensures) c.finish.ensures.items
+    (ap (sequence_in rule child c.args.tree.now) c.in-Some.ensures) c.finish.ensures

@@ -17,7 +17,7 @@ returns-in_default-taker g c =
     (omega arith) c.index-items-place.is (sym c.in_default-taker.ensures) c.loop-place.invariant.rest in
     let held : c.loop-place.gather ≡ gathered_items rule parts = c.loop-place.invariant.gather ∙ ap (gathered_items rule) all in
     finished c.finish.result c.loop-place.gather c.args.tree.now items rule parts (tuple rule children c.args.tree.now) c.in-Some.ensures held
-    (ap (tuple_in rule children c.args.tree.now) c.in-Some.ensures) c.finish.ensures.items
+    (ap (tuple_in rule children c.args.tree.now) c.in-Some.ensures) c.finish.ensures
 
 pub loop-place-preserved : goal.loop-place-preserved
 loop-place-preserved g c =
@@ -43,4 +43,4 @@ returns g c =
     let end : drop c.loop-place.place parts ≡ [] = c.loop-place.invariant.rest ∙ ap (placed rule children (length items) c.loop-place.place) (drop_all c.loop-place.place items c.loop-place-test.false) in
     let held : c.loop-place.gather ≡ gathered_items rule parts = c.loop-place.invariant.gather ∙ ap (gathered_items rule) (take_whole parts c.loop-place.place end) in
     finished c.finish-2.result c.loop-place.gather c.args.tree.now items rule parts (tuple rule children c.args.tree.now) c.in-Some.ensures held
-    (ap (tuple_in rule children c.args.tree.now) c.in-Some.ensures) c.finish-2.ensures.items
+    (ap (tuple_in rule children c.args.tree.now) c.in-Some.ensures) c.finish-2.ensures
