@@ -11,12 +11,15 @@ use Rattle.pv_distinct.specs.declared.token.Token.{Token}
 use Rattle.pv_distinct.specs.declared.token.Token.TheVariants as token
 use Rattle.pv_distinct.specs.Tokens.{token_cmp}
 
+-- tokens in order
 abbrev pub KeyTokens : Type 0
 KeyTokens = List Token
 
+-- keys compare token by token
 abbrev pub key_cmp : KeyTokens → KeyTokens → Ordering
 key_cmp = slice_cmp token_cmp
 
+-- keys one behind another
 abbrev pub joined : List KeyTokens → KeyTokens
 joined [] = []
 joined (k ∷ ks) = k ++ joined ks
@@ -25,19 +28,23 @@ joined (k ∷ ks) = k ++ joined ks
 abbrev pub ordered : List KeyTokens → List KeyTokens
 ordered ks = fold (insert_key key_cmp) [] ks
 
--- an item, an entry or a field, behind which its name stands
+-- the key of an item, behind which an empty name stands
 abbrev pub item_key : KeyTokens → KeyTokens
 item_key k = k ++ token.Name [] ∷ []
 
+-- the keys of an entry's key and value, behind which an empty name stands
 abbrev pub entry_key : KeyTokens × KeyTokens → KeyTokens
 entry_key e = (e.0 ++ e.1) ++ token.Name [] ∷ []
 
+-- the key of a field's value, behind which its name stands
 abbrev pub field_key : List ℕ × KeyTokens → KeyTokens
 field_key f = f.1 ++ token.Name f.0 ∷ []
 
+-- the keys of items whose order does not matter, between marks
 abbrev pub set_key : List KeyTokens → KeyTokens
 set_key ks = token.Open ∷ (joined (ordered ks) ++ token.End ∷ [])
 
+-- one level, with the key of each value inside in its place
 abbrev pub key_at : Value-F KeyTokens → KeyTokens
 key_at Value-F.None = token.None ∷ []
 key_at (Value-F.Bool b) = token.Int (pos (if b then 1 else 0)) ∷ []
@@ -53,9 +60,11 @@ key_at (Value-F.Set ks) = token.Set ∷ (set_key (map item_key ks) ++ token.End 
 key_at (Value-F.Frozen ks) = token.Set ∷ (set_key (map item_key ks) ++ token.End ∷ [])
 key_at (Value-F.Dict es) = token.Dict ∷ (set_key (map entry_key es) ++ token.End ∷ [])
 key_at (Value-F.Model cls fs set es) =
-    token.Model cls ∷ ((set_key (map field_key fs) ++ set_key (map field_key es)) ++ token.End ∷ [])
+    token.Model cls
+    ∷ ((set_key (map field_key fs) ++ set_key (map field_key es)) ++ token.End ∷ [])
 key_at (Value-F.Root cls k) = token.Root cls ∷ (k ++ token.End ∷ [])
 
+-- of a value
 abbrev pub key : Value → KeyTokens
 key = fold-Value KeyTokens key_at
 

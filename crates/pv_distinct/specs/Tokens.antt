@@ -1,7 +1,7 @@
 -- The order of tokens: first by kind, then by number, then by two texts.
 use Rattle.std.specs.Prelude.{ℕ, ℤ, pos, Bool, true, false, List, [], ◌∷◌}
-use Rattle.std.specs.declared.cmp.Ordering.{Ordering}
 use Rattle.std.specs.Prelude.{Option, None, Some}
+use Rattle.std.specs.declared.cmp.Ordering.{Ordering}
 use Rattle.std.specs.Ordering.{nat_cmp, on, then_cmp}
 use Rattle.std.specs.Cmp.Lexicographic.{slice_cmp}
 use Rattle.pv_number.specs.ExactNumber.{Number, number}
@@ -11,6 +11,7 @@ use Rattle.pv_tree.specs.declared.AtomKind.TheVariants.{Uuid, Url, Date, Time, D
 use Rattle.pv_distinct.specs.declared.token.Token.{Token}
 use Rattle.pv_distinct.specs.declared.token.Token.TheVariants as token
 
+-- the number of a token's kind; ints and lexemes are of one kind
 abbrev pub token_kind : Token → ℕ
 token_kind token.None = 0
 token_kind (token.Int n) = 1
@@ -40,22 +41,26 @@ opens (token.Model c) = true
 opens (token.Root c) = true
 opens t = false
 
+-- the spelling of a lexeme
 abbrev pub token_lexeme : Token → Option (List ℕ)
 token_lexeme (token.Lexeme l) = Some l
 token_lexeme t = None
 
+-- an int; 0 where the token is none
 abbrev pub token_int : Token → ℤ
 token_int (token.Int n) = n
 token_int t = pos 0
 
+-- the exact number of a spelling, or of an int where there is none
 abbrev pub number_of : Option (List ℕ) → ℤ → Number
 number_of None n = int_number n
 number_of (Some l) n = number l
 
--- 0 where the token is no number
+-- the exact number of a token; 0 where it is none
 abbrev pub token_number : Token → Number
 token_number t = number_of (token_lexeme t) (token_int t)
 
+-- what tells the kinds of atoms apart
 abbrev pub atom_mark : AtomKind → List ℕ
 atom_mark Uuid = 0 ∷ []
 atom_mark Url = 1 ∷ []
@@ -64,6 +69,7 @@ atom_mark Time = 3 ∷ []
 atom_mark DateTime = 4 ∷ []
 atom_mark Decimal = 5 ∷ []
 
+-- the first text of a token; empty where it has none
 abbrev pub token_first : Token → List ℕ
 token_first (token.Str t) = t
 token_first (token.Bytes t) = t
@@ -74,16 +80,22 @@ token_first (token.Root c) = c
 token_first (token.Name n) = n
 token_first t = []
 
+-- the second text of a token; empty where it has none
 abbrev pub token_second : Token → List ℕ
 token_second (token.Atom k t) = atom_mark k
 token_second (token.Enum c n) = n
 token_second t = []
 
+-- texts compare byte by byte
 abbrev pub bytes_cmp : List ℕ → List ℕ → Ordering
 bytes_cmp = slice_cmp nat_cmp
 
+-- tokens of one kind compare by number, and then by their texts
 abbrev pub contents_cmp : Token → Token → Ordering
-contents_cmp = then_cmp (on token_number number_cmp) (then_cmp (on token_first bytes_cmp) (on token_second bytes_cmp))
+contents_cmp =
+    then_cmp (on token_number number_cmp)
+    (then_cmp (on token_first bytes_cmp) (on token_second bytes_cmp))
 
+-- tokens compare by kind, and then by what they hold
 unfoldable pub token_cmp : Token → Token → Ordering
 token_cmp = then_cmp (on token_kind nat_cmp) contents_cmp

@@ -48,13 +48,15 @@ fn write_items(alloc: Global, values: &[Value], out: &mut Key) -> Result<(), Mem
     Ok(())
 }
 
-/// Appends the key of a value and, behind it, a name.
+/// A key, and behind it the key of a value and a name.
 #[cycle(key)]
-fn write_named(alloc: Global, value: &Value, name: &Text, out: &mut Key) -> Result<(), Memory>
-    ensures { OnOk result (out.new ≡ (out.old ++ key value.now) ++ Token.Name name.now ∷ []) }
+fn named_key(alloc: Global, item: Key, value: &Value, name: &Text) -> Result<Key, Memory>
+    ensures { IfOk result (λ k. k ≡ (item ++ key value.now) ++ Token.Name name.now ∷ []) }
 {
-    write_key(alloc, value, out)?;
-    push_name(alloc, name, out)
+    let mut item = item;
+    write_key(alloc, value, &mut item)?;
+    push_name(alloc, name, &mut item)?;
+    Ok(item)
 }
 
 /// The key of a value and, behind it, a name.
@@ -62,9 +64,7 @@ fn write_named(alloc: Global, value: &Value, name: &Text, out: &mut Key) -> Resu
 fn item_key(alloc: Global, value: &Value, name: &Text) -> Result<Key, Memory>
     ensures { IfOk result (λ k. k ≡ key value.now ++ Token.Name name.now ∷ []) }
 {
-    let mut item = Key::new(alloc, 2)?;
-    write_named(alloc, value, name, &mut item)?;
-    Ok(item)
+    named_key(alloc, Key::new(alloc, 2)?, value, name)
 }
 
 /// The key of a value, with room for one more value and a name.
@@ -98,9 +98,8 @@ fn write_entries(alloc: Global, entries: &[(Value, Value)], out: &mut Key) -> Re
     let name = Text::from_str(alloc, "")?;
     let mut keys = BTreeSet::new(alloc);
     for (first, second) in entries {
-        let mut item = first_key(alloc, first)?;
-        write_named(alloc, second, &name, &mut item)?;
-        keys.insert(item)?;
+        let item = first_key(alloc, first)?;
+        keys.insert(named_key(alloc, item, second, &name)?)?;
     }
     append_set(out, keys)
 }

@@ -22,5 +22,6 @@ hashable_at (Value-F.Dict entries) = false
 hashable_at (Value-F.Model cls fields set extra) = false
 hashable_at (Value-F.Root cls value) = false
 
+-- of a value
 abbrev pub hashable : Value → Bool
 hashable = fold-Value Bool hashable_at
