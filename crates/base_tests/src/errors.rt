@@ -10,62 +10,60 @@ use std::alloc::Global;
 use std::process::Abort;
 
 /// The printed text of one error of each kind, and of both numbers where a kind has counts.
-const PRINTED: [&str; 54] = [
-    r#"[{"type":"missing","loc":[],"msg":"Field required","input":null}]"#,
-    r#"[{"type":"extra_forbidden","loc":[],"msg":"Extra inputs are not permitted","input":null}]"#,
-    r#"[{"type":"recursion_loop","loc":[],"msg":"Recursion error - cyclic reference detected","input":null}]"#,
-    r#"[{"type":"json_invalid","loc":[],"msg":"Invalid JSON: unexpected byte at offset 3","input":null,"ctx":{"error":"unexpected byte at offset 3"}}]"#,
-    r#"[{"type":"none_required","loc":[],"msg":"Input should be null","input":null}]"#,
-    r#"[{"type":"bool_type","loc":[],"msg":"Input should be a valid boolean","input":null}]"#,
-    r#"[{"type":"bool_parsing","loc":[],"msg":"Input should be a valid boolean, unable to interpret input","input":null}]"#,
-    r#"[{"type":"int_type","loc":[],"msg":"Input should be a valid integer","input":null}]"#,
-    r#"[{"type":"int_parsing","loc":[],"msg":"Input should be a valid integer, unable to parse string as an integer","input":null}]"#,
-    r#"[{"type":"int_parsing_size","loc":[],"msg":"Unable to parse input as an integer, exceeded maximum size","input":null}]"#,
-    r#"[{"type":"int_from_float","loc":[],"msg":"Input should be a valid integer, got a number with a fractional part","input":null}]"#,
-    r#"[{"type":"multiple_of","loc":[],"msg":"Input should be a multiple of -7","input":null,"ctx":{"multiple_of":-7}}]"#,
-    r#"[{"type":"greater_than","loc":[],"msg":"Input should be greater than -170141183460469231731687303715884105728","input":null,"ctx":{"gt":-170141183460469231731687303715884105728}}]"#,
-    r#"[{"type":"greater_than_equal","loc":[],"msg":"Input should be greater than or equal to 170141183460469231731687303715884105727","input":null,"ctx":{"ge":170141183460469231731687303715884105727}}]"#,
-    r#"[{"type":"less_than","loc":[],"msg":"Input should be less than 0","input":null,"ctx":{"lt":0}}]"#,
-    r#"[{"type":"less_than_equal","loc":[],"msg":"Input should be less than or equal to 10","input":null,"ctx":{"le":10}}]"#,
-    r#"[{"type":"string_type","loc":[],"msg":"Input should be a valid string","input":null}]"#,
-    r#"[{"type":"string_too_short","loc":[],"msg":"String should have at least 1 character","input":null,"ctx":{"min_length":1}}]"#,
-    r#"[{"type":"string_too_short","loc":[],"msg":"String should have at least 2 characters","input":null,"ctx":{"min_length":2}}]"#,
-    r#"[{"type":"string_too_long","loc":[],"msg":"String should have at most 1 character","input":null,"ctx":{"max_length":1}}]"#,
-    r#"[{"type":"string_too_long","loc":[],"msg":"String should have at most 2 characters","input":null,"ctx":{"max_length":2}}]"#,
-    r#"[{"type":"string_pattern_mismatch","loc":[],"msg":"String should match pattern '^\\d\"+\t$'","input":null,"ctx":{"pattern":"^\\d\"+\t$"}}]"#,
-    r#"[{"type":"bytes_type","loc":[],"msg":"Input should be a valid bytes","input":null}]"#,
-    r#"[{"type":"bytes_too_short","loc":[],"msg":"Data should have at least 1 byte","input":null,"ctx":{"min_length":1}}]"#,
-    r#"[{"type":"bytes_too_short","loc":[],"msg":"Data should have at least 2 bytes","input":null,"ctx":{"min_length":2}}]"#,
-    r#"[{"type":"bytes_too_long","loc":[],"msg":"Data should have at most 1 byte","input":null,"ctx":{"max_length":1}}]"#,
-    r#"[{"type":"bytes_too_long","loc":[],"msg":"Data should have at most 2 bytes","input":null,"ctx":{"max_length":2}}]"#,
-    r#"[{"type":"literal_error","loc":[],"msg":"Input should be 'a' or 1","input":null,"ctx":{"expected":"'a' or 1"}}]"#,
-    r#"[{"type":"enum","loc":[],"msg":"Input should be 'a' or 1","input":null,"ctx":{"expected":"'a' or 1"}}]"#,
-    r#"[{"type":"uuid_type","loc":[],"msg":"UUID input should be a string","input":null}]"#,
-    r#"[{"type":"uuid_parsing","loc":[],"msg":"Input should be a valid UUID","input":null}]"#,
-    r#"[{"type":"uuid_version","loc":[],"msg":"UUID version 4 expected","input":null,"ctx":{"expected_version":4}}]"#,
-    r#"[{"type":"url_type","loc":[],"msg":"URL input should be a string","input":null}]"#,
-    r#"[{"type":"url_parsing","loc":[],"msg":"Input should be a valid URL","input":null}]"#,
-    r#"[{"type":"url_too_long","loc":[],"msg":"URL should have at most 1 character","input":null,"ctx":{"max_length":1}}]"#,
-    r#"[{"type":"url_too_long","loc":[],"msg":"URL should have at most 2 characters","input":null,"ctx":{"max_length":2}}]"#,
-    r#"[{"type":"url_scheme","loc":[],"msg":"URL scheme should be 'http' or 'https'","input":null,"ctx":{"expected_schemes":"'http' or 'https'"}}]"#,
-    r#"[{"type":"list_type","loc":[],"msg":"Input should be a valid array","input":null}]"#,
-    r#"[{"type":"tuple_type","loc":[],"msg":"Input should be a valid array","input":null}]"#,
-    r#"[{"type":"set_type","loc":[],"msg":"Input should be a valid array","input":null}]"#,
-    r#"[{"type":"frozen_set_type","loc":[],"msg":"Input should be a valid array","input":null}]"#,
-    r#"[{"type":"dict_type","loc":[],"msg":"Input should be an object","input":null}]"#,
-    r#"[{"type":"model_type","loc":[],"msg":"Input should be an object","input":null}]"#,
-    r#"[{"type":"too_short","loc":[],"msg":"List should have at least 1 item after validation, not 0","input":null,"ctx":{"field_type":"List","min_length":1,"actual_length":0}}]"#,
-    r#"[{"type":"too_short","loc":[],"msg":"List should have at least 2 items after validation, not 0","input":null,"ctx":{"field_type":"List","min_length":2,"actual_length":0}}]"#,
-    r#"[{"type":"too_long","loc":[],"msg":"List should have at most 1 item after validation, not 0","input":null,"ctx":{"field_type":"List","max_length":1,"actual_length":0}}]"#,
-    r#"[{"type":"too_long","loc":[],"msg":"List should have at most 2 items after validation, not 0","input":null,"ctx":{"field_type":"List","max_length":2,"actual_length":0}}]"#,
-    r#"[{"type":"set_item_not_hashable","loc":[],"msg":"Set items should be hashable","input":null}]"#,
-    r#"[{"type":"dict_key_not_hashable","loc":[],"msg":"Dictionary keys should be hashable","input":null}]"#,
-    r#"[{"type":"union_tag_invalid","loc":[],"msg":"Input tag 'é\"\u0001' found using 'kind' | 'sub'.0 does not match any of the expected tags: 'cat', 'dog'","input":null,"ctx":{"discriminator":"'kind' | 'sub'.0","tag":"é\"\u0001","expected_tags":"'cat', 'dog'"}}]"#,
-    r#"[{"type":"union_tag_not_found","loc":[],"msg":"Unable to extract tag using discriminator 'kind' | 'sub'.0","input":null,"ctx":{"discriminator":"'kind' | 'sub'.0"}}]"#,
-    r#"[{"type":"value_error","loc":[],"msg":"Value error, unexpected byte at offset 3","input":null,"ctx":{"error":"unexpected byte at offset 3"}}]"#,
-    r#"[{"type":"assertion_error","loc":[],"msg":"Assertion failed, unexpected byte at offset 3","input":null,"ctx":{"error":"unexpected byte at offset 3"}}]"#,
-    r#"[{"type":"my_type","loc":[],"msg":"it is so","input":null}]"#,
-];
+const PRINTED: &str = r#"[{"type":"missing","loc":[],"msg":"Field required","input":null}]
+[{"type":"extra_forbidden","loc":[],"msg":"Extra inputs are not permitted","input":null}]
+[{"type":"recursion_loop","loc":[],"msg":"Recursion error - cyclic reference detected","input":null}]
+[{"type":"json_invalid","loc":[],"msg":"Invalid JSON: unexpected byte at offset 3","input":null,"ctx":{"error":"unexpected byte at offset 3"}}]
+[{"type":"none_required","loc":[],"msg":"Input should be null","input":null}]
+[{"type":"bool_type","loc":[],"msg":"Input should be a valid boolean","input":null}]
+[{"type":"bool_parsing","loc":[],"msg":"Input should be a valid boolean, unable to interpret input","input":null}]
+[{"type":"int_type","loc":[],"msg":"Input should be a valid integer","input":null}]
+[{"type":"int_parsing","loc":[],"msg":"Input should be a valid integer, unable to parse string as an integer","input":null}]
+[{"type":"int_parsing_size","loc":[],"msg":"Unable to parse input as an integer, exceeded maximum size","input":null}]
+[{"type":"int_from_float","loc":[],"msg":"Input should be a valid integer, got a number with a fractional part","input":null}]
+[{"type":"multiple_of","loc":[],"msg":"Input should be a multiple of -7","input":null,"ctx":{"multiple_of":-7}}]
+[{"type":"greater_than","loc":[],"msg":"Input should be greater than -170141183460469231731687303715884105728","input":null,"ctx":{"gt":-170141183460469231731687303715884105728}}]
+[{"type":"greater_than_equal","loc":[],"msg":"Input should be greater than or equal to 170141183460469231731687303715884105727","input":null,"ctx":{"ge":170141183460469231731687303715884105727}}]
+[{"type":"less_than","loc":[],"msg":"Input should be less than 0","input":null,"ctx":{"lt":0}}]
+[{"type":"less_than_equal","loc":[],"msg":"Input should be less than or equal to 10","input":null,"ctx":{"le":10}}]
+[{"type":"string_type","loc":[],"msg":"Input should be a valid string","input":null}]
+[{"type":"string_too_short","loc":[],"msg":"String should have at least 1 character","input":null,"ctx":{"min_length":1}}]
+[{"type":"string_too_short","loc":[],"msg":"String should have at least 2 characters","input":null,"ctx":{"min_length":2}}]
+[{"type":"string_too_long","loc":[],"msg":"String should have at most 1 character","input":null,"ctx":{"max_length":1}}]
+[{"type":"string_too_long","loc":[],"msg":"String should have at most 2 characters","input":null,"ctx":{"max_length":2}}]
+[{"type":"string_pattern_mismatch","loc":[],"msg":"String should match pattern '^\\d\"+\t$'","input":null,"ctx":{"pattern":"^\\d\"+\t$"}}]
+[{"type":"bytes_type","loc":[],"msg":"Input should be a valid bytes","input":null}]
+[{"type":"bytes_too_short","loc":[],"msg":"Data should have at least 1 byte","input":null,"ctx":{"min_length":1}}]
+[{"type":"bytes_too_short","loc":[],"msg":"Data should have at least 2 bytes","input":null,"ctx":{"min_length":2}}]
+[{"type":"bytes_too_long","loc":[],"msg":"Data should have at most 1 byte","input":null,"ctx":{"max_length":1}}]
+[{"type":"bytes_too_long","loc":[],"msg":"Data should have at most 2 bytes","input":null,"ctx":{"max_length":2}}]
+[{"type":"literal_error","loc":[],"msg":"Input should be 'a' or 1","input":null,"ctx":{"expected":"'a' or 1"}}]
+[{"type":"enum","loc":[],"msg":"Input should be 'a' or 1","input":null,"ctx":{"expected":"'a' or 1"}}]
+[{"type":"uuid_type","loc":[],"msg":"UUID input should be a string","input":null}]
+[{"type":"uuid_parsing","loc":[],"msg":"Input should be a valid UUID","input":null}]
+[{"type":"uuid_version","loc":[],"msg":"UUID version 4 expected","input":null,"ctx":{"expected_version":4}}]
+[{"type":"url_type","loc":[],"msg":"URL input should be a string","input":null}]
+[{"type":"url_parsing","loc":[],"msg":"Input should be a valid URL","input":null}]
+[{"type":"url_too_long","loc":[],"msg":"URL should have at most 1 character","input":null,"ctx":{"max_length":1}}]
+[{"type":"url_too_long","loc":[],"msg":"URL should have at most 2 characters","input":null,"ctx":{"max_length":2}}]
+[{"type":"url_scheme","loc":[],"msg":"URL scheme should be 'http' or 'https'","input":null,"ctx":{"expected_schemes":"'http' or 'https'"}}]
+[{"type":"list_type","loc":[],"msg":"Input should be a valid array","input":null}]
+[{"type":"tuple_type","loc":[],"msg":"Input should be a valid array","input":null}]
+[{"type":"set_type","loc":[],"msg":"Input should be a valid array","input":null}]
+[{"type":"frozen_set_type","loc":[],"msg":"Input should be a valid array","input":null}]
+[{"type":"dict_type","loc":[],"msg":"Input should be an object","input":null}]
+[{"type":"model_type","loc":[],"msg":"Input should be an object","input":null}]
+[{"type":"too_short","loc":[],"msg":"List should have at least 1 item after validation, not 0","input":null,"ctx":{"field_type":"List","min_length":1,"actual_length":0}}]
+[{"type":"too_short","loc":[],"msg":"List should have at least 2 items after validation, not 0","input":null,"ctx":{"field_type":"List","min_length":2,"actual_length":0}}]
+[{"type":"too_long","loc":[],"msg":"List should have at most 1 item after validation, not 0","input":null,"ctx":{"field_type":"List","max_length":1,"actual_length":0}}]
+[{"type":"too_long","loc":[],"msg":"List should have at most 2 items after validation, not 0","input":null,"ctx":{"field_type":"List","max_length":2,"actual_length":0}}]
+[{"type":"set_item_not_hashable","loc":[],"msg":"Set items should be hashable","input":null}]
+[{"type":"dict_key_not_hashable","loc":[],"msg":"Dictionary keys should be hashable","input":null}]
+[{"type":"union_tag_invalid","loc":[],"msg":"Input tag 'é\"\u0001' found using 'kind' | 'sub'.0 does not match any of the expected tags: 'cat', 'dog'","input":null,"ctx":{"discriminator":"'kind' | 'sub'.0","tag":"é\"\u0001","expected_tags":"'cat', 'dog'"}}]
+[{"type":"union_tag_not_found","loc":[],"msg":"Unable to extract tag using discriminator 'kind' | 'sub'.0","input":null,"ctx":{"discriminator":"'kind' | 'sub'.0"}}]
+[{"type":"value_error","loc":[],"msg":"Value error, unexpected byte at offset 3","input":null,"ctx":{"error":"unexpected byte at offset 3"}}]
+[{"type":"assertion_error","loc":[],"msg":"Assertion failed, unexpected byte at offset 3","input":null,"ctx":{"error":"unexpected byte at offset 3"}}]
+[{"type":"my_type","loc":[],"msg":"it is so","input":null}]"#;
 
 /// The kind of a row whose context has no text.
 fn kind_of(rt: &impl Abort, alloc: Global, row: usize) -> Kind {
@@ -175,14 +173,6 @@ fn kind_with_texts(rt: &impl Abort, alloc: Global, row: usize) -> Kind {
     }
 }
 
-fn error_of(rt: &impl Abort, alloc: Global, kind: Kind, input: Tree) -> LineError {
-    LineError {
-        kind,
-        loc: Loc::new(alloc),
-        input,
-    }
-}
-
 fn printed(rt: &impl Abort, alloc: Global, faults: &Faults) -> ByteBuf {
     let mut out = ByteBuf::new(alloc);
     write_faults(faults, &mut out).expect(rt, "memory");
@@ -192,10 +182,10 @@ fn printed(rt: &impl Abort, alloc: Global, faults: &Faults) -> ByteBuf {
 #[test]
 fn each_kind_has_its_text(rt: HostRuntime) {
     let alloc = rt.alloc();
-    for (row, want) in PRINTED.iter().enumerate() {
+    for (row, want) in PRINTED.lines().enumerate() {
         let mut faults = Faults::new(alloc);
         faults
-            .push(error_of(&rt, alloc, kind_of(&rt, alloc, row), Tree::Null))
+            .push_here(alloc, kind_of(&rt, alloc, row), &Tree::Null)
             .expect(&rt, "memory");
         let out = printed(&rt, alloc, &faults);
         assert!(rt; out.as_slice() == want.as_bytes(), "in row {row}");
@@ -214,17 +204,16 @@ fn two_errors(rt: &impl Abort, alloc: Global) -> Faults
     ensures { length result ≡ 2 }
 {
     let mut faults = Faults::new(alloc);
+    let input = Tree::Str(text(rt, alloc, "é\\"));
     faults
-        .push(error_of(
-            rt,
-            alloc,
-            custom(rt, alloc),
-            Tree::Str(text(rt, alloc, "é\\")),
-        ))
+        .push_here(alloc, custom(rt, alloc), &input)
         .expect(rt, "memory");
-    faults
-        .push(error_of(rt, alloc, Kind::Missing, Tree::Null))
-        .expect(rt, "memory");
+    let whole = LineError {
+        kind: Kind::Missing,
+        loc: Loc::new(alloc),
+        input: Tree::Null,
+    };
+    faults.push(whole).expect(rt, "memory");
     faults
 }
 

@@ -1,16 +1,38 @@
-//! Texts, numbers, trees and values, written as text.
+//! Texts, bytes, numbers, trees and values, written as text. Tables are texts too, a row a line: a
+//! proof does not look into them.
 
 use pv_json::read;
 use pv_notation::{write_loc, write_tree, write_value};
 use pv_number::Lexeme;
 use pv_text::{ByteBuf, Bytes, Text};
-use pv_tree::{AtomKind, Entries, Loc, Named, Names, Tree, Value, Values, plain_value};
+use pv_tree::{AtomKind, Entries, Loc, Named, Names, Row, Tree, Value, Values, plain_value};
 use sqlite_items::{Boxed, Items};
 use std::alloc::Global;
 use std::process::Abort;
 
 pub(crate) fn text(rt: &impl Abort, alloc: Global, s: &str) -> Text {
     Text::from_str(alloc, s).expect(rt, "memory")
+}
+
+/// What stands before and behind the first space of a row.
+pub(crate) fn cut<'a>(rt: &impl Abort, row: &'a str) -> (&'a str, &'a str) {
+    row.split_once(' ').expect(rt, "a space")
+}
+
+/// The bytes of a text in which `%` and two digits stand for a byte.
+pub(crate) fn bytes_of(rt: &impl Abort, alloc: Global, s: &str) -> ByteBuf {
+    let mut out = ByteBuf::new(alloc);
+    let mut parts = s.split('%');
+    if let Some(first) = parts.next() {
+        out.push_slice(first.as_bytes()).expect(rt, "memory");
+    }
+    for part in parts {
+        let (digits, rest) = part.as_bytes().split_at_checked(2).expect(rt, "two digits");
+        let byte = hex::decode(alloc, digits).expect(rt, "two digits");
+        out.push_slice(&byte).expect(rt, "memory");
+        out.push_slice(rest).expect(rt, "memory");
+    }
+    out
 }
 
 pub(crate) fn lexeme(rt: &impl Abort, alloc: Global, spelling: &[u8]) -> Lexeme {
@@ -165,7 +187,7 @@ fn model(rt: &impl Abort, alloc: Global, parts: &[Tree]) -> Value {
 
 #[cycle(value)]
 fn named(rt: &impl Abort, alloc: Global, pairs: &[Tree]) -> Named {
-    let mut all = Items::new(alloc);
+    let mut all = Vec::new(alloc);
     for pair in pairs {
         if let Tree::Array(parts) = pair
             && let [Tree::Str(name), value] = parts.as_slice()
@@ -174,16 +196,16 @@ fn named(rt: &impl Abort, alloc: Global, pairs: &[Tree]) -> Named {
                 .expect(rt, "memory");
         }
     }
-    all
+    Row::from_vec(alloc, all).expect(rt, "memory")
 }
 
 fn names(rt: &impl Abort, alloc: Global, parts: &[Tree]) -> Names {
-    let mut all = Items::new(alloc);
+    let mut all = Vec::new(alloc);
     for part in parts {
         if let Tree::Str(name) = part {
             all.push(text(rt, alloc, name.as_str()))
                 .expect(rt, "memory");
         }
     }
-    all
+    Row::from_vec(alloc, all).expect(rt, "memory")
 }

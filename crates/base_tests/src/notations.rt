@@ -3,40 +3,45 @@ use pv_tree::Value;
 use sqlite_items::Items;
 
 /// A notation of each kind of value.
-const NOTATIONS: [&str; 24] = [
-    "null",
-    "false",
-    "-170141183460469231731687303715884105728",
-    r#"{"number":"1.50"}"#,
-    "\"a\\\"\\\\\\b\\f\\n\\r\\t\\u001f/é\"",
-    r#"{"bytes":"00abff"}"#,
-    r#"{"uuid":"67e55044-10b1-426f-9247-bb680e5fe0c8"}"#,
-    r#"{"url":"http://a/"}"#,
-    r#"{"date":"D"}"#,
-    r#"{"time":"T"}"#,
-    r#"{"datetime":"T"}"#,
-    r#"{"decimal":"1.0"}"#,
-    "[]",
-    "[1,[true]]",
-    r#"{"tuple":[1]}"#,
-    r#"{"set":[1]}"#,
-    r#"{"frozenset":[]}"#,
-    r#"{"dict":[[true,null],[-2,false]]}"#,
-    r#"{"dict":[]}"#,
-    r#"{"enum":["C","N",1]}"#,
-    r#"{"root":["R",null]}"#,
-    r#"{"model":["M",[["x",1]],["y"],[["z",1]]]}"#,
-    r#"{"model":["M",[],[],[]]}"#,
-    r#"{"set":[{"frozenset":[{"tuple":["a",{"bytes":""}]}]}]}"#,
-];
+const NOTATIONS: &str = r#"null
+false
+-170141183460469231731687303715884105728
+{"number":"1.50"}
+"a\"\\\b\f\n\r\t\u001f/é"
+{"bytes":"00abff"}
+{"uuid":"67e55044-10b1-426f-9247-bb680e5fe0c8"}
+{"url":"http://a/"}
+{"date":"D"}
+{"time":"T"}
+{"datetime":"T"}
+{"decimal":"1.0"}
+[]
+[1,[true]]
+{"tuple":[1]}
+{"set":[1]}
+{"frozenset":[]}
+{"dict":[[true,null],[-2,false]]}
+{"dict":[]}
+{"enum":["C","N",1]}
+{"root":["R",null]}
+{"model":["M",[["x",1]],["y"],[["z",1]]]}
+{"model":["M",[],[],[]]}
+{"set":[{"frozenset":[{"tuple":["a",{"bytes":""}]}]}]}"#;
 
 #[test]
-fn each_kind_of_value_has_its_notation(rt: HostRuntime) {
+fn each_kind_of_value_is_copied_and_has_its_notation(rt: HostRuntime) {
     let alloc = rt.alloc();
-    for want in NOTATIONS {
-        let written = notation(&rt, alloc, &value(&rt, alloc, want));
+    for want in NOTATIONS.lines() {
+        let value = value(&rt, alloc, want);
+        let copied = value.copy(alloc).expect(&rt, "memory");
+        let written = notation(&rt, alloc, &copied);
         assert_eq!(rt; written.as_slice(), want.as_bytes(), "{want}");
     }
+}
+
+#[test]
+fn blanks_of_a_document_are_not_written(rt: HostRuntime) {
+    let alloc = rt.alloc();
     let spaced = tree(
         &rt,
         alloc,

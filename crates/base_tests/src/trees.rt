@@ -20,6 +20,31 @@ fn a_repeated_name_keeps_its_place_and_its_last_value(rt: HostRuntime) {
 }
 
 #[test]
+fn trees_lend_what_they_hold(rt: HostRuntime) {
+    let alloc = rt.alloc();
+    let object = tree(&rt, alloc, r#"{"a":[null,true,1.50,"é"]}"#);
+    let Tree::Object(members) = &object else {
+        panic!(rt; "an object");
+    };
+    assert_eq!(rt; members.len(), 1);
+    let (name, array) = members.get(0).expect(&rt, "a member");
+    assert_eq!(rt; name.as_str(), "a");
+    let Some([nothing, flag, number, word]) = array.as_array() else {
+        panic!(rt; "four items");
+    };
+    assert!(rt; nothing.is_null() && !object.is_null());
+    assert_eq!(rt; flag.as_flag(), Some(true));
+    assert!(rt;
+        number
+            .as_lexeme()
+            .is_some_and(|n| n.as_slice() == b"1.50".as_slice())
+    );
+    assert!(rt; word.as_text().is_some_and(|text| text.as_str() == "é"));
+    assert!(rt; object.as_object().is_some_and(|all| all.len() == 1));
+    assert!(rt; object.as_array().is_none() && array.as_object().is_none());
+}
+
+#[test]
 fn locations_grow_at_both_ends(rt: HostRuntime) {
     let alloc = rt.alloc();
     let mut loc = Loc::new(alloc);

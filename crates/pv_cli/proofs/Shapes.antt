@@ -1,9 +1,9 @@
 -- What an answer to a document has on its streams.
-use Rattle.std.proofs.Common.{◌≡◌, ℕ, true, false, List, length, Some, None, refl, ap, ◌∙◌, subst}
+use Rattle.std.proofs.Common.{◌≡◌, ℕ, true, false, List, Some, None, refl, ap, ◌∙◌, subst}
 use Rattle.std.specs.Prelude.{Bool, codes, Option, Result, Ok, Err}
-use Rattle.pv_json_grammar.specs.Values.{document}
+use Rattle.pv_json_grammar.specs.Documents.{Document, whole, bad, ends_early}
+use Rattle.pv_json_grammar.specs.Documents as documents
 use Rattle.pv_tree.specs.declared.Step.{Step}
-use Rattle.pv_tree.specs.declared.Tree.{Tree}
 use Rattle.pv_notation.specs.Notation.{notation}
 use Rattle.pv_fault.specs.Errors.{errors_text}
 use Rattle.pv_fault.specs.declared.Outcome.{Outcome}
@@ -14,7 +14,7 @@ use Rattle.pv_schema.specs.declared.SchemaFault.TheVariants as fault
 use Rattle.pv_schema.specs.Reading.{schema_of}
 use Rattle.pv_plan.specs.BadPatterns.{bad_pattern}
 use Rattle.pv_engine.specs.Meaning.{full_depth, meaning}
-use Rattle.pv_cli.specs.Faults.{fault_text, schema_fault_text}
+use Rattle.pv_cli.specs.Faults.{bad_text, end_text, schema_bad_text, schema_end_text}
 use Rattle.pv_cli.specs.Answering.{of_schema, of_shape, of_built}
 use Rattle.pv_cli.specs.Lines.{schema_refused, placed_text, code_text, too_many_text, words_refused, IsLineOf, IsOutOf}
 use Rattle.pv_cli.specs.Running.{is_printed}
@@ -46,13 +46,14 @@ outcome : (o : Outcome) → IsSettled (of_outcome o)
 outcome (Good v grade fields) = valid (notation v)
 outcome (Bad errors) = invalid (errors_text errors)
 
-reading : (strict : Option Bool) (n : Node) (size : ℕ) (read : Result Tree ℕ) → IsSettled (of_reading strict n size read)
-reading strict n size (Ok t) = outcome (meaning strict full_depth n t)
-reading strict n size (Err left) = invalid (json_errors (fault_text size left))
+reading : (strict : Option Bool) (n : Node) (read : Document) → IsSettled (of_reading strict n read)
+reading strict n (whole t) = outcome (meaning strict full_depth n t)
+reading strict n (bad at) = invalid (json_errors (bad_text at))
+reading strict n ends_early = invalid (json_errors end_text)
 
 pub document_settled : (strict : Option Bool) (n : Node) (bs : List ℕ) → IsSettled (of_document strict n bs)
 unfolding of_document
-document_settled strict n bs = reading strict n (length bs) (document 128 bs)
+document_settled strict n bs = reading strict n (documents.reading 128 bs)
 
 -- ---- a schema file that decides the answer
 
@@ -78,18 +79,19 @@ by_shape (Err (fault.NotYet path)) = record { settled = unbuilt; silent = refl }
 by_shape (Err (fault.TooManyNodes count)) = record { settled = refused_schema too_many_text; silent = refl }
 by_shape (Err fault.Memory) = record { settled = unbuilt; silent = refl }
 
-by_schema : (size : ℕ) (read : Result Tree ℕ) → IsUnprinted (of_schema unserved size read)
-by_schema size (Ok t) = by_shape (schema_of t)
-by_schema size (Err left) = record { settled = refused_schema (schema_fault_text size left); silent = refl }
+by_schema : (read : Document) → IsUnprinted (of_schema unserved read)
+by_schema (whole t) = by_shape (schema_of t)
+by_schema (bad at) = record { settled = refused_schema (schema_bad_text at); silent = refl }
+by_schema ends_early = record { settled = refused_schema schema_end_text; silent = refl }
 
 -- it is the answer whatever schema would be served
-pub always : (size : ℕ) (read : Result Tree ℕ) (step : SchemaStep) (a : Answer) → DecidesSchema size read step → step ≡ Answered a → (next : Node → Answer) → of_schema next size read ≡ a
-always size read step a d e next = d next ∙ ap (λ s. outcome_of s next) e
+pub always : (read : Document) (step : SchemaStep) (a : Answer) → DecidesSchema read step → step ≡ Answered a → (next : Node → Answer) → of_schema next read ≡ a
+always read step a d e next = d next ∙ ap (λ s. outcome_of s next) e
 
-pub answered_settled : (size : ℕ) (read : Result Tree ℕ) (step : SchemaStep) (a : Answer) → DecidesSchema size read step → step ≡ Answered a → IsSettled a
-answered_settled size read step a d e = subst (λ x. IsSettled x) (always size read step a d e unserved) (by_schema size read).settled
+pub answered_settled : (read : Document) (step : SchemaStep) (a : Answer) → DecidesSchema read step → step ≡ Answered a → IsSettled a
+answered_settled read step a d e = subst (λ x. IsSettled x) (always read step a d e unserved) (by_schema read).settled
 
-pub answered_silent : (size : ℕ) (read : Result Tree ℕ) (step : SchemaStep) (a : Answer) → DecidesSchema size read step → step ≡ Answered a → is_printed a.status ≡ true → ⊥
-answered_silent size read step a d e printed =
-    let silent : is_printed a.status ≡ false = subst (λ x. is_printed x.status ≡ false) (always size read step a d e unserved) (by_schema size read).silent in
+pub answered_silent : (read : Document) (step : SchemaStep) (a : Answer) → DecidesSchema read step → step ≡ Answered a → is_printed a.status ≡ true → ⊥
+answered_silent read step a d e printed =
+    let silent : is_printed a.status ≡ false = subst (λ x. is_printed x.status ≡ false) (always read step a d e unserved) (by_schema read).silent in
     cc

@@ -1,5 +1,5 @@
 -- What is answered to a document under a schema.
-use Rattle.std.specs.Prelude.{ℕ, Bool, List, [], ◌∷◌, length, codes, Option, Result, Ok, Err}
+use Rattle.std.specs.Prelude.{Bool, ℕ, List, [], ◌∷◌, codes, Option}
 use Rattle.pv_tree.specs.declared.Tree.{Tree}
 use Rattle.pv_tree.specs.declared.Tree.TheVariants as tree
 use Rattle.pv_fault.specs.Errors.{errors_text}
@@ -9,9 +9,9 @@ use Rattle.pv_fault.specs.declared.Outcome.{Outcome}
 use Rattle.pv_fault.specs.declared.Outcome.TheVariants.{Good, Bad}
 use Rattle.pv_node.specs.declared.Node.{Node}
 use Rattle.pv_notation.specs.Notation.{notation}
-use Rattle.pv_json_grammar.specs.Values.{document}
+use Rattle.pv_json_grammar.specs.Documents.{Document, whole, bad, ends_early, reading}
 use Rattle.pv_engine.specs.Meaning.{full_depth, meaning}
-use Rattle.pv_cli.specs.Faults.{fault_text}
+use Rattle.pv_cli.specs.Faults.{bad_text, end_text}
 use Rattle.pv_cli.specs.Lines.{line}
 use Rattle.pv_cli.specs.declared.answer.Answer.{Answer}
 use Rattle.pv_cli.specs.declared.status.Status.{Status}
@@ -25,6 +25,7 @@ printed text status = record { out = line text; line = []; status = status }
 abbrev pub refused : List ℕ → Status → Answer
 refused text status = record { out = []; line = text; status = status }
 
+-- the line of what is not served yet
 abbrev pub not_built : Answer
 not_built = refused (line (codes "not built yet")) status.NotYet
 
@@ -32,6 +33,7 @@ not_built = refused (line (codes "not built yet")) status.NotYet
 abbrev pub one_error : Kind → Tree → List ℕ
 one_error kind t = errors_text (record { kind = kind; loc = []; input = t } ∷ [])
 
+-- the printed error of a document that is no JSON
 abbrev pub json_errors : List ℕ → List ℕ
 json_errors text = one_error (kind.JsonInvalid text) tree.Null
 
@@ -40,9 +42,12 @@ abbrev pub of_outcome : Outcome → Answer
 of_outcome (Good v grade fields) = printed (notation v) status.Valid
 of_outcome (Bad errors) = printed (errors_text errors) status.Invalid
 
-abbrev pub of_reading : Option Bool → Node → ℕ → Result Tree ℕ → Answer
-of_reading strict schema size (Ok t) = of_outcome (meaning strict full_depth schema t)
-of_reading strict schema size (Err left) = printed (json_errors (fault_text size left)) status.Invalid
+-- of what the input is as a document
+abbrev pub of_reading : Option Bool → Node → Document → Answer
+of_reading strict schema (whole t) = of_outcome (meaning strict full_depth schema t)
+of_reading strict schema (bad at) = printed (json_errors (bad_text at)) status.Invalid
+of_reading strict schema ends_early = printed (json_errors end_text) status.Invalid
 
+-- of the bytes of a document
 unfoldable pub of_document : Option Bool → Node → List ℕ → Answer
-of_document strict schema bytes = of_reading strict schema (length bytes) (document 128 bytes)
+of_document strict schema bytes = of_reading strict schema (reading 128 bytes)

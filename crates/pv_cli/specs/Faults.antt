@@ -1,8 +1,18 @@
--- The texts of a fault in JSON, by the bytes left at it. Where none is left, the text ends before its time.
-use Rattle.std.specs.Prelude.{ℕ, ◌-◌, if◌then◌else◌, ◌==◌, List, ◌++◌, codes, decimal}
+-- The texts of what is wrong in JSON.
+use Rattle.std.specs.Prelude.{ℕ, List, ◌++◌, codes, decimal}
 
-abbrev pub fault_text : ℕ → ℕ → List ℕ
-fault_text size left = if left == 0 then codes "unexpected end of input" else codes "unexpected byte at offset " ++ decimal (size - left)
+-- in a document, the byte at this place
+abbrev pub bad_text : ℕ → List ℕ
+bad_text at = codes "unexpected byte at offset " ++ decimal at
 
-abbrev pub schema_fault_text : ℕ → ℕ → List ℕ
-schema_fault_text size left = if left == 0 then codes "JSON ends early" else codes "not JSON at offset " ++ decimal (size - left)
+-- in a document that ends early
+abbrev pub end_text : List ℕ
+end_text = codes "unexpected end of input"
+
+-- in a schema, the byte at this place
+abbrev pub schema_bad_text : ℕ → List ℕ
+schema_bad_text at = codes "not JSON at offset " ++ decimal at
+
+-- in a schema that ends early
+abbrev pub schema_end_text : List ℕ
+schema_end_text = codes "JSON ends early"

@@ -1,8 +1,8 @@
 -- What each step of a run answers.
 use Rattle.std.specs.Prelude.{◌≡◌, ℕ, List, Result}
+use Rattle.pv_json_grammar.specs.Documents.{Document}
 use Rattle.pv_edge.specs.declared.LoadFault.{LoadFault}
 use Rattle.pv_edge.specs.declared.LoadFault.TheVariants as fault
-use Rattle.pv_tree.specs.declared.Tree.{Tree}
 use Rattle.pv_cli.specs.Answering.{of_schema, of_shape, of_built}
 use Rattle.pv_cli.specs.Documents.{refused}
 use Rattle.pv_cli.specs.Lines.{read_failed, too_large}
@@ -28,14 +28,17 @@ abbrev pub outcome_of : SchemaStep → (Node → Answer) → Answer
 outcome_of (Served plan) next = next plan
 outcome_of (Answered a) next = a
 
+-- what comes of the patterns of a schema
 abbrev pub DecidesBuilt : Node → SchemaStep → Type 0
 DecidesBuilt schema step = (next : Node → Answer) → of_built next schema (bad_pattern schema) ≡ outcome_of step next
 
+-- what comes of the shape of a schema
 abbrev pub DecidesShape : Result Node SchemaFault → SchemaStep → Type 0
 DecidesShape read step = (next : Node → Answer) → of_shape next read ≡ outcome_of step next
 
-abbrev pub DecidesSchema : ℕ → Result Tree ℕ → SchemaStep → Type 0
-DecidesSchema size read step = (next : Node → Answer) → of_schema next size read ≡ outcome_of step next
+-- what comes of a schema file by what it is as a document
+abbrev pub DecidesSchema : Document → SchemaStep → Type 0
+DecidesSchema read step = (next : Node → Answer) → of_schema next read ≡ outcome_of step next
 
 -- the answer to a file that was not loaded; want of memory has none
 abbrev pub IsRefusal : List ℕ → LoadFault → Answer → Type 0

@@ -1,7 +1,8 @@
 //! The answer to a document under a schema.
 
-ghost use Rattle.std.specs.Prelude.{◌≡◌, ◌++◌, IfOk, codes, decimal};
+ghost use Rattle.std.specs.Prelude.{◌≡◌, IfOk};
 ghost use Rattle.pv_cli.specs.Documents as spec;
+ghost use Rattle.pv_cli.specs.Faults as text;
 
 use crate::answer::Answer;
 use crate::status::Status;
@@ -31,14 +32,14 @@ fn one_error(alloc: Global, kind: Kind, input: Tree) -> Result<ByteBuf, Memory>
 
 /// The text of a fault in JSON, `at` being the place of the first byte that fits nowhere.
 fn bad_text(alloc: Global, at: u64) -> Result<Text, Memory>
-    ensures { IfOk result (λ t. t ≡ codes "unexpected byte at offset " ++ decimal at) }
+    ensures { IfOk result (λ t. t ≡ text.bad_text at) }
 {
     let text = format!(in alloc; "unexpected byte at offset {at}")?;
     Text::from_str(alloc, text.as_str())
 }
 
 fn end_text(alloc: Global) -> Result<Text, Memory>
-    ensures { IfOk result (λ t. t ≡ codes "unexpected end of input") }
+    ensures { IfOk result (λ t. t ≡ text.end_text) }
 {
     Text::from_str(alloc, "unexpected end of input")
 }

@@ -1,6 +1,7 @@
 //! The lines on standard error.
 
-ghost use Rattle.std.specs.Prelude.{◌≡◌, ◌++◌, IfOk, codes, decimal};
+ghost use Rattle.std.specs.Prelude.{◌≡◌, ◌++◌, IfOk, codes};
+ghost use Rattle.pv_cli.specs.Faults as text;
 ghost use Rattle.pv_cli.specs.Lines as spec;
 ghost use Rattle.pv_notation.specs.Strings.{quoted};
 
@@ -36,7 +37,7 @@ pub(crate) fn too_large(alloc: Global, name: &Text) -> Result<ByteBuf, Memory>
 
 /// The line for a schema file whose byte at the place `at` fits no JSON.
 pub(crate) fn schema_not_json(alloc: Global, at: u64) -> Result<ByteBuf, Memory>
-    ensures { IfOk result (λ b. b ≡ spec.schema_refused (codes "not JSON at offset " ++ decimal at)) }
+    ensures { IfOk result (λ b. b ≡ spec.schema_refused (text.schema_bad_text at)) }
 {
     let mut out = ByteBuf::new(alloc);
     let mut buffer = Buffer::new();
@@ -47,7 +48,7 @@ pub(crate) fn schema_not_json(alloc: Global, at: u64) -> Result<ByteBuf, Memory>
 }
 
 pub(crate) fn schema_ends_early(alloc: Global) -> Result<ByteBuf, Memory>
-    ensures { IfOk result (λ b. b ≡ spec.schema_refused (codes "JSON ends early")) }
+    ensures { IfOk result (λ b. b ≡ spec.schema_refused text.schema_end_text) }
 {
     let mut out = ByteBuf::new(alloc);
     out.push_slice(b"schema refused: JSON ends early\n")?;

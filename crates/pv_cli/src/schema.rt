@@ -1,7 +1,7 @@
 //! From a schema file's bytes to its plan, or to the answer that refuses it.
 
-ghost use Rattle.std.specs.Prelude.{◌≡◌, IfOk, Result, Ok, Err, Some, None, length, codes};
-ghost use Rattle.pv_json_grammar.specs.Values.{document};
+ghost use Rattle.std.specs.Prelude.{◌≡◌, IfOk, Result, Ok, Err, Some, None, codes};
+ghost use Rattle.pv_json_grammar.specs.Documents.{reading};
 ghost use Rattle.pv_node.specs.declared.Node.{Node};
 ghost use Rattle.pv_schema.specs.Reading.{schema_of};
 ghost use Rattle.pv_cli.specs.Steps.{DecidesBuilt, DecidesSchema, DecidesShape};
@@ -64,7 +64,7 @@ fn read_shape(alloc: Global, tree: &Tree) -> Result<SchemaStep, Memory>
 }
 
 pub(crate) fn read_schema_file(alloc: Global, bytes: &[u8]) -> Result<SchemaStep, Memory>
-    ensures { IfOk result (λ step. DecidesSchema (length bytes.now) (document 128 bytes.now) step) }
+    ensures { IfOk result (DecidesSchema (reading 128 bytes.now)) }
 {
     match read(alloc, bytes) {
         Ok(tree) => read_shape(alloc, &tree),

@@ -1,11 +1,11 @@
 -- Whatever words stood, some words behind them complete a command.
-use Rattle.std.proofs.Common.{◌≡◌, ℕ, ◌+◌, ◌&&◌, Bool, true, false, cond, List, [], ◌∷◌, codes, refl, ap}
+use Rattle.std.proofs.Common.{◌≡◌, ℕ, ◌+◌, ◌&&◌, Bool, true, false, cond, List, [], ◌∷◌, codes, refl, ap, ◌∙◌}
 use Rattle.std.specs.Prelude.{Some, None, Ok}
 use Rattle.pv_tree.specs.declared.Tree.{Tree}
 use Rattle.pv_tree.specs.declared.Tree.TheVariants as tree
-use Rattle.pv_json_grammar.specs.Reading.{after, skip}
-use Rattle.pv_json_grammar.specs.Values.{document, value}
-use Rattle.pv_command.specs.Picks.{Role, pick_of}
+use Rattle.pv_json_grammar.specs.Spells.{spells_true}
+use Rattle.pv_json_grammar.proofs.Readings.{scalar_whole}
+use Rattle.pv_command.specs.Picks.{Role, pick_of, pick_read}
 use Rattle.pv_command.specs.Numbers.{number_below}
 use Rattle.pv_command.specs.Options.{Options, is_option}
 use Rattle.pv_command.specs.Operands.{Command, check, Operands, whole, a_file, a_file_beside, a_seed, a_count, behind, is_input}
@@ -78,8 +78,10 @@ options_at f o (a_seed next) is = first_operand f o (next 0) zero_word refl (rw 
 options_at f o (a_count next) is = first_operand f o (next 0) zero_word refl (rw is (count_zero next)) (operands_complete (next 0))
 
 pub true_is_pick : pick_of (codes "true") ≡ Some (tree.Bool true)
-unfolding pick_of document value after skip
-true_is_pick = ap (λ (r : Role). cond r.is_pick (Some (tree.Bool true)) None) (role_bool true)
+unfolding pick_of
+true_is_pick =
+    ap pick_read (scalar_whole 128 (codes "true") (tree.Bool true) (spells_true refl refl))
+    ∙ ap (λ (r : Role). cond r.is_pick (Some (tree.Bool true)) None) (role_bool true)
 
 pick_complete : (f : Form) (next : Tree → Options) → Completes (options_from f (next (tree.Bool true))) → Completes (a_pick f next)
 unfolding asked_from step

@@ -1,7 +1,8 @@
 -- What the trees of each kind can be in a pick.
-use Rattle.std.proofs.Common.{◌≡◌, ℕ, Bool, List, map, sym, ap, ◌∙◌}
+use Rattle.std.proofs.Common.{◌≡◌, ℕ, Bool, false, List, map, sym, ap, ◌∙◌}
 use Rattle.std.specs.List.{list_all}
 use Rattle.std.proofs.lemmas.List.Folds.{list_all-map}
+use Rattle.pv_tree.specs.Names.{Distinct}
 use Rattle.pv_tree.specs.declared.Tree.{Tree}
 use Rattle.pv_tree.specs.declared.Tree.TheVariants as tree
 use Rattle.pv_tree.specs.declared.Tree.TheVariants.{rolls-Null, rolls-Bool, rolls-Num, rolls-Str, rolls-Array, rolls-Object}
@@ -27,11 +28,15 @@ role_array ts = ap role (sym (rolls-Array ts)) ∙ fold-roll-Tree Role role_step
 abbrev with_role : List ℕ × Tree → List ℕ × Role
 with_role m = (m.0, role m.1)
 
-pub role_object : (ms : List (List ℕ × Tree)) → role (tree.Object ms) ≡ role_step (Tree-F.Object (map with_role ms))
-role_object ms = ap role (sym (rolls-Object ms)) ∙ fold-roll-Tree Role role_step (Tree-F.Object ms)
+-- a role of an object whose members have these roles
+abbrev object_role : List (List ℕ × Role) → Role
+object_role ms = record { is_pick = list_all (λ m. m.1.is_pick) ms; is_item = false }
+
+pub role_object : (d : Distinct Tree) → role (tree.Object d) ≡ object_role (map with_role d.members)
+role_object d = ap role (sym (rolls-Object d)) ∙ fold-roll-Tree Role role_step (Tree-F.Object d)
 
 pub pick_array : (ts : List Tree) → is_pick (tree.Array ts) ≡ list_all is_item ts
 pick_array ts = ap (λ (r : Role). r.is_pick) (role_array ts) ∙ list_all-map (λ (r : Role). r.is_item) role ts
 
-pub pick_object : (ms : List (List ℕ × Tree)) → is_pick (tree.Object ms) ≡ list_all (λ m. is_pick m.1) ms
-pick_object ms = ap (λ (r : Role). r.is_pick) (role_object ms) ∙ list_all-map (λ (m : List ℕ × Role). m.1.is_pick) with_role ms
+pub pick_object : (d : Distinct Tree) → is_pick (tree.Object d) ≡ list_all (λ m. is_pick m.1) d.members
+pick_object d = ap (λ (r : Role). r.is_pick) (role_object d) ∙ list_all-map (λ (m : List ℕ × Role). m.1.is_pick) with_role d.members

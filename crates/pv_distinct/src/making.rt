@@ -1,6 +1,7 @@
 //! How keys are made.
 
-ghost use Rattle.std.specs.Prelude.{◌≡◌, [], ◌∷◌, ◌++◌, map, pos, if◌then◌else◌, OnOk, IfOk};
+ghost use Rattle.std.specs.Prelude.{◌≡◌, [], ◌∷◌, ◌++◌, map, pos, if◌then◌else◌};
+ghost use Rattle.std.specs.Prelude.{OnOk, IfOk};
 ghost use Rattle.pv_distinct.specs.Keys as spec;
 ghost use Rattle.pv_distinct.specs.Keys.{key};
 
@@ -17,9 +18,18 @@ fn flag_value(flag: bool) -> i128
     if flag { 1 } else { 0 }
 }
 
+/// Appends a name, which is shared.
+fn push_name(alloc: Global, name: &Text, out: &mut Key) -> Result<(), Memory>
+    ensures { OnOk result (out.new ≡ out.old ++ Token.Name name.now ∷ []) }
+{
+    let name = name.share(alloc)?;
+    out.push(Token::Name(name))
+}
+
 /// Appends the keys of a set's items, which came in the order of the keys.
 fn append_set(out: &mut Key, keys: BTreeSet<Key>) -> Result<(), Memory>
-    ensures { OnOk result (out.new ≡ out.old ++ Token.Open ∷ (spec.joined keys.keys ++ Token.End ∷ [])) }
+    ensures { OnOk result (out.new
+        ≡ out.old ++ Token.Open ∷ (spec.joined keys.keys ++ Token.End ∷ [])) }
 {
     out.push(Token::Open)?;
     for key in keys {
@@ -38,20 +48,39 @@ fn write_items(alloc: Global, values: &[Value], out: &mut Key) -> Result<(), Mem
     Ok(())
 }
 
+/// Appends the key of a value and, behind it, a name.
+#[cycle(key)]
+fn write_named(alloc: Global, value: &Value, name: &Text, out: &mut Key) -> Result<(), Memory>
+    ensures { OnOk result (out.new ≡ (out.old ++ key value.now) ++ Token.Name name.now ∷ []) }
+{
+    write_key(alloc, value, out)?;
+    push_name(alloc, name, out)
+}
+
 /// The key of a value and, behind it, a name.
 #[cycle(key)]
 fn item_key(alloc: Global, value: &Value, name: &Text) -> Result<Key, Memory>
     ensures { IfOk result (λ k. k ≡ key value.now ++ Token.Name name.now ∷ []) }
 {
     let mut item = Key::new(alloc, 2)?;
+    write_named(alloc, value, name, &mut item)?;
+    Ok(item)
+}
+
+/// The key of a value, with room for one more value and a name.
+#[cycle(key)]
+fn first_key(alloc: Global, value: &Value) -> Result<Key, Memory>
+    ensures { IfOk result (λ k. k ≡ key value.now) }
+{
+    let mut item = Key::new(alloc, 3)?;
     write_key(alloc, value, &mut item)?;
-    item.push(Token::Name(name.share(alloc)?))?;
     Ok(item)
 }
 
 #[cycle(key)]
 fn write_set(alloc: Global, values: &[Value], out: &mut Key) -> Result<(), Memory>
-    ensures { OnOk result (out.new ≡ out.old ++ spec.set_key (map spec.item_key (map key values.now))) }
+    ensures { OnOk result (out.new
+        ≡ out.old ++ spec.set_key (map spec.item_key (map key values.now))) }
 {
     let name = Text::from_str(alloc, "")?;
     let mut keys = BTreeSet::new(alloc);
@@ -63,15 +92,14 @@ fn write_set(alloc: Global, values: &[Value], out: &mut Key) -> Result<(), Memor
 
 #[cycle(key)]
 fn write_entries(alloc: Global, entries: &[(Value, Value)], out: &mut Key) -> Result<(), Memory>
-    ensures { OnOk result (out.new ≡ out.old ++ spec.set_key (map spec.entry_key (map (λ e. (key e.0, key e.1)) entries.now))) }
+    ensures { OnOk result (out.new ≡ out.old
+        ++ spec.set_key (map spec.entry_key (map (λ e. (key e.0, key e.1)) entries.now))) }
 {
     let name = Text::from_str(alloc, "")?;
     let mut keys = BTreeSet::new(alloc);
     for (first, second) in entries {
-        let mut item = Key::new(alloc, 3)?;
-        write_key(alloc, first, &mut item)?;
-        write_key(alloc, second, &mut item)?;
-        item.push(Token::Name(name.share(alloc)?))?;
+        let mut item = first_key(alloc, first)?;
+        write_named(alloc, second, &name, &mut item)?;
         keys.insert(item)?;
     }
     append_set(out, keys)
@@ -79,7 +107,8 @@ fn write_entries(alloc: Global, entries: &[(Value, Value)], out: &mut Key) -> Re
 
 #[cycle(key)]
 fn write_fields(alloc: Global, fields: &[(Text, Value)], out: &mut Key) -> Result<(), Memory>
-    ensures { OnOk result (out.new ≡ out.old ++ spec.set_key (map spec.field_key (map (λ f. (f.0, key f.1)) fields.now))) }
+    ensures { OnOk result (out.new ≡ out.old
+        ++ spec.set_key (map spec.field_key (map (λ f. (f.0, key f.1)) fields.now))) }
 {
     let mut keys = BTreeSet::new(alloc);
     for (name, value) in fields {

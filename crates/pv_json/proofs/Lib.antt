@@ -3,4 +3,3 @@ pub mod PlainTexts
 pub mod EndLaws
 pub mod Items
 pub mod Steps
-pub mod Left

@@ -6,8 +6,9 @@ ghost use Rattle.pv_notation.specs.Strings.{escaped};
 ghost use Rattle.pv_json_grammar.specs.Strings as spec;
 
 /// How many bytes of ASCII stand for themselves from here on.
-#[tactic(auto, using(crate::proofs::PlainTexts::ascii_text, crate::proofs::PlainTexts::plain_more))]
-fn ascii_len(s: &[u8]) -> usize
+#[tactic(auto, using(crate::proofs::PlainTexts::ascii_text, crate::proofs::PlainTexts::plain_more), unfolding(pv_json_grammar::specs::Strings::plain))]
+pub(crate) fn ascii_len(s: &[u8]) -> usize
+    ensures value { result ≡ spec.plain s.now }
     ensures within { result ≤ length s.now }
     ensures plain { flat_map escaped (take result s.now) ≡ take result s.now }
     ensures utf8 { IsUtf8 (take result s.now) }
@@ -38,7 +39,8 @@ fn raw_len(s: &[u8]) -> usize
     n
 }
 
-/// The length of the string behind its opening quote, where it has no escape and its closing quote follows.
+/// The length of the string behind its opening quote, where it has no escape and its closing quote
+/// follows.
 #[tactic(auto, using(crate::proofs::PlainTexts::plain_string))]
 pub(crate) fn plain_len(s: &[u8]) -> Option<usize>
     ensures within { IfSome result (λ n. n < length s.now) }

@@ -29,10 +29,10 @@ fn read_whole(alloc: Global, input: &[u8]) -> Result<Tree, ReadFault>
     }
 }
 
-/// The tree that the whole input spells (RFC 8259, in UTF-8), of which at most `NESTING` containers nest.
-/// The texts and numbers of the tree are pieces of one copy of the input, which lives as long as one
-/// of them. Time is linear in the input. An input of 4 GiB or more is want of memory. The answer names
-/// the place of the first byte that fits nowhere, by the reading of values in order.
+/// The tree that the whole input spells (RFC 8259, in UTF-8), of which at most `NESTING` containers
+/// nest. The texts and numbers of the tree are pieces of one copy of the input, which lives as long
+/// as one of them. Time is linear in the input. An input of 4 GiB or more is want of memory. The
+/// answer names the place of the first byte that fits nowhere, by the reading of values in order.
 pub fn read(alloc: Global, input: &[u8]) -> Result<Tree, ReadFault>
     // A tree comes exactly where the grammar has one.
     ensures spelled { IfOk result (λ t. SpellsDocument NESTING input.now t) }

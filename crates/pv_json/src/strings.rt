@@ -1,13 +1,15 @@
-//! Strings (RFC 8259, section 7, and RFC 3629), a unit at a time. What is read are the bytes of the text.
+//! Strings (RFC 8259, section 7, and RFC 3629), a unit at a time. What is read are the bytes of the
+//! text.
 
-ghost use Rattle.std.specs.Prelude.{◌≡◌, ◌≤◌, ◌<◌, ◌+◌, ◌*◌, ◌==◌, if◌then◌else◌, ◌++◌, length, unwrap_or, IfOk, IfSome, encode_utf8};
+ghost use Rattle.std.specs.Prelude.{◌≡◌, ◌≤◌, ◌<◌, ◌+◌, ◌*◌, ◌==◌, if◌then◌else◌};
+ghost use Rattle.std.specs.Prelude.{◌++◌, unwrap_or, IfOk, IfSome, encode_utf8};
 ghost use Rattle.std.specs.Char.{InScalarRange};
 ghost use Rattle.pv_json_grammar.specs.Reading.{onto};
 ghost use Rattle.pv_json_grammar.specs.Strings as spec;
 ghost use Rattle.pv_json.specs.Gives.{Gives};
 
 use crate::fault::ReadError;
-use crate::plain::plain_len;
+use crate::plain::{ascii_len, plain_len};
 use crate::rest::Rest;
 use crate::symbols::byte_in;
 use pv_text::{ByteBuf, Memory, Text};
@@ -198,28 +200,12 @@ fn escape<'a>(out: &mut ByteBuf, s: &'a [u8]) -> Result<&'a [u8], ReadError>
     Ok(rest)
 }
 
-/// How many bytes stand for themselves from here on.
-#[tactic(auto, unfolding(pv_json_grammar::specs::Strings::plain))]
-fn plain(s: &[u8]) -> usize
-    ensures value { result ≡ spec.plain s.now }
-    ensures within { result ≤ length s.now }
-{
-    let mut n = 0;
-    for b in s {
-        if *b < 0x20 || 0x80 <= *b || *b == b'"' || *b == b'\\' {
-            return n;
-        }
-        n += 1;
-    }
-    n
-}
-
 /// The bytes that stand for themselves, and one unit more. `true` comes at the closing quote.
 #[tactic(auto, unfolding(pv_json_grammar::specs::Strings::turn))]
 fn turn<'a>(out: &mut ByteBuf, s: &'a [u8]) -> Result<(bool, &'a [u8]), ReadError>
     ensures { Gives (λ x. (x.0, out.new, x.1.now)) result (spec.turn out.old s.now) }
 {
-    let n = plain(s);
+    let n = ascii_len(s);
     out.push_slice(&s[..n])?;
     let rest = &s[n..];
     let [b, more @ ..] = rest else {

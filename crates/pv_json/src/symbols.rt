@@ -1,4 +1,5 @@
-//! Single bytes, white space and words. An `Err` tells how many bytes are left at the first that fits nowhere.
+//! Single bytes, white space and words. An `Err` tells how many bytes are left at the first that
+//! fits nowhere.
 
 ghost use Rattle.std.specs.Prelude.{◌≡◌, ◌≤◌, length, drop};
 ghost use Rattle.pv_json_grammar.specs.Reading as spec;

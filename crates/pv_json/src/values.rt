@@ -86,9 +86,10 @@ fn array<'a>(alloc: Global, nesting: usize, s: &Rest<'a>) -> Result<(Tree, Rest<
 
 /// One item or more, the closing bracket, and what follows it.
 #[cycle(value)]
-#[tactic(auto, using(crate::proofs::Steps::items_step), unfolding(pv_json_grammar::specs::Values::items))]
+#[tactic(auto, using(crate::proofs::Steps::several_step), unfolding(pv_json_grammar::specs::Values::several))]
 fn items<'a>(alloc: Global, nesting: usize, s: &Rest<'a>) -> Result<(Tree, Rest<'a>), ReadError>
-    ensures { Gives (λ x. (x.0, x.1)) result (spec.items (spec.value nesting) (length s.now) [] s.now) }
+    ensures { Gives (λ x. (x.0, x.1)) result
+        (spec.items (spec.value nesting) (length s.now) [] s.now) }
 {
     let mut all = Vec::new(alloc);
     let mut rest = s.after(0);
@@ -119,7 +120,8 @@ fn member<'a>(
     nesting: usize,
     s: &Rest<'a>,
 ) -> Result<((Text, Tree), Rest<'a>), ReadError>
-    ensures { Gives (λ x. (((x.0).0, (x.0).1), x.1)) result (spec.member (spec.value nesting) s.now) }
+    ensures { Gives (λ x. (((x.0).0, (x.0).1), x.1)) result
+        (spec.member (spec.value nesting) s.now) }
 {
     let rest = past(b'"', &skip(s))?;
     let (name, rest) = text(alloc, &rest)?;
@@ -130,7 +132,7 @@ fn member<'a>(
 
 /// An object behind its opening brace, and what follows it.
 #[cycle(value)]
-#[tactic(auto, using(pv_tree::proofs::Merges::merged_none), unfolding(pv_json_grammar::specs::Values::object))]
+#[tactic(auto, unfolding(pv_json_grammar::specs::Values::object))]
 fn object<'a>(alloc: Global, nesting: usize, s: &Rest<'a>) -> Result<(Tree, Rest<'a>), ReadError>
     ensures { Gives (λ x. (x.0, x.1)) result (spec.object (spec.value nesting) s.now) }
 {
@@ -143,9 +145,10 @@ fn object<'a>(alloc: Global, nesting: usize, s: &Rest<'a>) -> Result<(Tree, Rest
 
 /// One member or more, the closing brace, and what follows it.
 #[cycle(value)]
-#[tactic(auto, using(crate::proofs::Steps::members_step), unfolding(pv_json_grammar::specs::Values::members))]
+#[tactic(auto, using(crate::proofs::Steps::several_step), unfolding(pv_json_grammar::specs::Values::several))]
 fn members<'a>(alloc: Global, nesting: usize, s: &Rest<'a>) -> Result<(Tree, Rest<'a>), ReadError>
-    ensures { Gives (λ x. (x.0, x.1)) result (spec.members (spec.value nesting) (length s.now) [] s.now) }
+    ensures { Gives (λ x. (x.0, x.1)) result
+        (spec.members (spec.value nesting) (length s.now) [] s.now) }
 {
     let mut all = Vec::new(alloc);
     let mut rest = s.after(0);

@@ -123,9 +123,9 @@ level_printed items members f g (Tree-F.Str text) l = subst Printed (sym (fold-r
 level_printed items members f g (Tree-F.Array ts) l =
     subst Printed (sym (fold-roll-Tree (List ℕ) compact_step (Tree-F.Array ts)))
     (printed_between 91 93 (joined (map compact ts)) (omega arith) (omega arith) (joined_printed (map compact ts) (f ts l)))
-level_printed items members f g (Tree-F.Object ms) l =
-    subst Printed (sym (ap compact (rolls-Object ms) ∙ compact_object ms))
-    (printed_between 123 125 (joined (map compact_member ms)) (omega arith) (omega arith) (joined_printed (map compact_member ms) (g ms l)))
+level_printed items members f g (Tree-F.Object d) l =
+    subst Printed (sym (ap compact (rolls-Object d) ∙ compact_object d))
+    (printed_between 123 125 (joined (map compact_member d.members)) (omega arith) (omega arith) (joined_printed (map compact_member d.members) (g d.members l)))
 
 module _ (Inner : Tree → Type 0) (printed : (t : Tree) → Inner t → Printed (compact t)) where
   items_printed : (ts : List Tree) → AllByRecursion Inner ts → AllByRecursion Printed (map compact ts)
@@ -140,7 +140,7 @@ module _ (Inner : Tree → Type 0) (printed : (t : Tree) → Inner t → Printed
   nesting_printed x l =
       level_printed (All Inner) (AreMembers Inner)
       (λ ts a. items_printed ts (recursion_from_All Inner ts a))
-      (λ ms a. members_printed ms (recursion_from_All (λ (m : List ℕ × Tree). IsUtf8 m.0 × Inner m.1) ms a.0)) x l
+      (λ ms a. members_printed ms (recursion_from_All (λ (m : List ℕ × Tree). IsUtf8 m.0 × Inner m.1) ms a)) x l
 
 tree_printed : (n : ℕ) (t : Tree) → IsDocumentTree n t → Printed (compact t)
 unfolding IsDocumentTree

@@ -17,7 +17,7 @@ use Rattle.pv_json_grammar.specs.SpelledStrings.{SpellsString}
 use Rattle.pv_json_grammar.specs.Spells.{SpellsScalar, spells_null, spells_true, spells_false, spells_number, spells_text, Padded, Listed, Enclosed, SpellsMember, SpellsValue, spells_scalar, spells_array, spells_object, Spells, SpellsDocument}
 use Rattle.pv_json_grammar.specs.DocumentTrees.{IsLevel, AreMembers, IsDocumentTree}
 use Rattle.pv_json_grammar.proofs.Quoted.{quoted_spelled}
-use Rattle.pv_json_grammar.proofs.Names.{merged_same}
+use Rattle.pv_json_grammar.proofs.Names.{object_same}
 
 -- things and the texts that spell them, with no white space
 module _ {A : Type 0} (S : List ℕ → A → Type 0) where
@@ -51,7 +51,7 @@ scalar_spelled (Tree-F.Str text) l =
     subst (SpellsScalar (compact (roll-Tree (Tree-F.Str text)))) (sym (rolls-Str text))
     (text_spelled text _ (fold-roll-Tree (List ℕ) compact_step (Tree-F.Str text)) l)
 scalar_spelled (Tree-F.Array ts) l = absurd l
-scalar_spelled (Tree-F.Object ms) l = absurd l
+scalar_spelled (Tree-F.Object d) l = absurd l
 
 -- one level, of which the trees inside are spelled by their compact JSON
 module _ (S : List ℕ → Tree → Type 0) (Inner : Tree → Type 0) (spells : (t : Tree) → Inner t → S (compact t) t) where
@@ -84,9 +84,10 @@ module _ (S : List ℕ → Tree → Type 0) (Inner : Tree → Type 0) (spells : 
   level_spelled (Tree-F.Str text) l = spells_scalar (scalar_spelled (Tree-F.Str text) l)
   level_spelled (Tree-F.Array ts) l =
       spells_array (joined (map compact ts)) ts (fold-roll-Tree (List ℕ) compact_step (Tree-F.Array ts)) (enclosed S compact ts (items_spelled ts (recursion_from_All Inner ts l))) (rolls-Array ts)
-  level_spelled (Tree-F.Object ms) l =
-      spells_object (joined (map compact_member ms)) ms (ap compact (rolls-Object ms) ∙ compact_object ms) (enclosed (SpellsMember S) compact_member ms (members_spelled ms (recursion_from_All (λ (m : List ℕ × Tree). IsUtf8 m.0 × Inner m.1) ms l.0)))
-      (rolls-Object ms ∙ ap tree.Object (sym (merged_same ms l.1)))
+  level_spelled (Tree-F.Object d) l =
+      spells_object (joined (map compact_member d.members)) d.members (ap compact (rolls-Object d) ∙ compact_object d)
+      (enclosed (SpellsMember S) compact_member d.members (members_spelled d.members (recursion_from_All (λ (m : List ℕ × Tree). IsUtf8 m.0 × Inner m.1) d.members l)))
+      (rolls-Object d ∙ ap tree.Object (sym (object_same d)))
 
 pub compact_spelled : (n : ℕ) (t : Tree) → IsDocumentTree n t → Spells n (compact t) t
 unfolding Spells IsDocumentTree

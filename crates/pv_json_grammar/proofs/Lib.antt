@@ -9,8 +9,9 @@ pub mod Names
 pub mod CompactSpelled
 pub mod SpelledTrees
 pub mod CompactPrinted
-pub mod Several
 pub mod SeveralSound
 pub mod SeveralComplete
 pub mod ValueSound
 pub mod ValueComplete
+pub mod Left
+pub mod Readings

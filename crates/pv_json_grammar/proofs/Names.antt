@@ -1,10 +1,10 @@
--- Members that are merged: distinct names stay as they are, and names become distinct.
+-- Members that are merged: distinct names stay as they are.
 use Rattle.std.proofs.Common.{◌≡◌, ℕ, Bool, true, false, List, [], ◌∷◌, ◌++◌, refl, sym, ap, ◌∙◌, append-nil, append_assoc}
 use Rattle.std.proofs.lemmas.Slice.Eq.{bytes_eq-Decides}
 use Rattle.std.specs.Prelude.{bytes_eq}
 use Rattle.std.specs.List.{AllByRecursion, IsDistinct}
-use Rattle.pv_tree.specs.Merging.{put, put_all, merged}
-use Rattle.pv_json_grammar.specs.DocumentTrees.{names}
+use Rattle.pv_tree.specs.Names.{names, HasDistinctNames, Distinct, same_distinct}
+use Rattle.pv_tree.specs.Merging.{put, put_all, merged, object_of}
 
 apart_back : (a b : List ℕ) → bytes_eq a b ≡ false → bytes_eq b a ≡ false
 apart_back a b e = by (bytes_eq b a) refl
@@ -34,7 +34,7 @@ module _ {V : Type 0} where
   all_new_past done [] m n d = tt
   all_new_past done (x ∷ ms) m n d = (new_past x.0 done m n.0 (apart_back m.0 x.0 d.0), all_new_past done ms m n.1 d.1)
 
-  put_all_new : (done ms : List (List ℕ × V)) → AreNew done ms → IsDistinct bytes_eq (names ms) → put_all done ms ≡ done ++ ms
+  put_all_new : (done ms : List (List ℕ × V)) → AreNew done ms → HasDistinctNames ms → put_all done ms ≡ done ++ ms
   unfolding IsDistinct
   put_all_new done [] n d = sym (append-nil done)
   put_all_new done (m ∷ ms) n d =
@@ -46,34 +46,13 @@ module _ {V : Type 0} where
   all_new [] = tt
   all_new (m ∷ ms) = (tt, all_new ms)
 
-  pub merged_same : (ms : List (List ℕ × V)) → IsDistinct bytes_eq (names ms) → merged ms ≡ ms
+  merged_same : (ms : List (List ℕ × V)) → HasDistinctNames ms → merged ms ≡ ms
   unfolding merged
   merged_same ms d = put_all_new [] ms (all_new ms) d
 
-  put_apart : (x : List ℕ) (ms : List (List ℕ × V)) (name : List ℕ) (v : V) → IsNew x ms → bytes_eq x name ≡ false → IsNew x (put ms name v)
-  put_apart x [] name v n e = (e, tt)
-  put_apart x (m ∷ ms) name v n e = by (bytes_eq name m.0) refl (put_apart x ms name v n.1 e)
-    where
-      by : (t : Bool) → bytes_eq name m.0 ≡ t → IsNew x (put ms name v) → IsNew x (put (m ∷ ms) name v)
-      by true f more = rw f n
-      by false f more = rw f (n.0, more)
-
-  put_distinct : (ms : List (List ℕ × V)) (name : List ℕ) (v : V) → IsDistinct bytes_eq (names ms) → IsDistinct bytes_eq (names (put ms name v))
-  unfolding IsDistinct
-  put_distinct [] name v d = (tt, tt)
-  put_distinct (m ∷ ms) name v d = by (bytes_eq name m.0) refl (put_distinct ms name v d.1)
-    where
-      by : (t : Bool) → bytes_eq name m.0 ≡ t → IsDistinct bytes_eq (names (put ms name v)) → IsDistinct bytes_eq (names (put (m ∷ ms) name v))
-      by true f more = rw f d
-      by false f more = rw f (put_apart m.0 ms name v d.0 (apart_back name m.0 f), more)
-
-  put_all_distinct : (done ms : List (List ℕ × V)) → IsDistinct bytes_eq (names done) → IsDistinct bytes_eq (names (put_all done ms))
-  put_all_distinct done [] d = d
-  put_all_distinct done (m ∷ ms) d = put_all_distinct (put done m.0 m.1) ms (put_distinct done m.0 m.1 d)
-
-  pub merged_distinct : (ms : List (List ℕ × V)) → IsDistinct bytes_eq (names (merged ms))
-  unfolding merged IsDistinct
-  merged_distinct ms = put_all_distinct [] ms tt
+  -- the object that members with distinct names make
+  pub object_same : (d : Distinct V) → object_of d.members ≡ d
+  object_same d = same_distinct (object_of d.members) d (merged_same d.members d.distinct)
 
   module _ (P : List ℕ → Type 0) (Q : V → Type 0) where
     -- members whose names are of P and whose values are of Q

@@ -4,8 +4,8 @@ use Rattle.std.proofs.lemmas.Bool.{eq-eqb}
 use Rattle.std.specs.Prelude.{IsTrue, ◌==◌, ◌||◌}
 use Rattle.pv_tree.specs.declared.Tree.{Tree}
 use Rattle.pv_json_grammar.specs.Reading.{Reads, is_blank, skip}
+use Rattle.pv_json_grammar.specs.Values.{several, group}
 use Rattle.pv_json_grammar.specs.Spells.{IsBlank, Padded, Listed, Enclosed}
-use Rattle.pv_json_grammar.proofs.Several.{add_all, several, group}
 
 -- a value may end before these bytes
 abbrev pub ends_value : ℕ → Bool
@@ -53,7 +53,7 @@ pub all_blank : (ws : List ℕ) → IsBlank ws → Ends ws
 all_blank [] b = tt
 all_blank (w ∷ ws) b = ap (λ t. t || (w == 44 || (w == 93 || w == 125))) b.0
 
-module _ {A : Type 0} (close : ℕ) (finish : List A → Tree) (add : List A → A → List A) (inner : List ℕ → Reads A) (S : List ℕ → A → Type 0) (complete : IsComplete inner S) where
+module _ {A : Type 0} (inner : List ℕ → Reads A) (close : ℕ) (finish : List A → Tree) (S : List ℕ → A → Type 0) (complete : IsComplete inner S) where
   one_thing : (bs : List ℕ) (x : A) (c : ℕ) (rest : List ℕ) → Padded S bs x → is_blank c ≡ false → IsTrue (ends_value c)
       → (more : List ℕ) × (inner (bs ++ c ∷ rest) ≡ Ok (x, more)) × (skip more ≡ c ∷ rest)
   one_thing bs x c rest p e ends = (
@@ -65,7 +65,7 @@ module _ {A : Type 0} (close : ℕ) (finish : List A → Tree) (add : List A →
 
   several_complete : is_blank close ≡ false → IsTrue (ends_value close) → (close == 44) ≡ false
       → (k : ℕ) (all : List A) (bs : List ℕ) (x : A) (xs : List A) (rest : List ℕ) → length xs < k → Listed S bs (x ∷ xs)
-      → several close finish add inner k all (bs ++ close ∷ rest) ≡ Ok (finish (add_all add all (x ∷ xs)), rest)
+      → several inner close finish k all (bs ++ close ∷ rest) ≡ Ok (finish (all ++ x ∷ xs), rest)
   unfolding several
   several_complete b e n zero all bs x xs rest l i = absurd (omega arith)
   several_complete b e n (suc k) all bs x [] rest l p =
@@ -73,8 +73,8 @@ module _ {A : Type 0} (close : ℕ) (finish : List A → Tree) (add : List A →
       rw (o.1, o.2, n, eq-eqb close close refl) refl
   several_complete b e n (suc k) all bs x (y ∷ ys) rest l (first, more, w, p, q) =
       let o = one_thing first x 44 (more ++ close ∷ rest) p refl refl in
-      ap (λ z. several close finish add inner (suc k) all z) (ap (λ z. z ++ close ∷ rest) w ∙ append_assoc first (44 ∷ more) (close ∷ rest))
-      ∙ rw (o.1, o.2) (several_complete b e n k (add all x) more y ys rest (omega arith) q)
+      ap (λ z. several inner close finish (suc k) all z) (ap (λ z. z ++ close ∷ rest) w ∙ append_assoc first (44 ∷ more) (close ∷ rest))
+      ∙ rw (o.1, o.2) (several_complete b e n k (all ++ x ∷ []) more y ys rest (omega arith) q ∙ ap (λ z. Ok (finish z, rest)) (append_assoc all (x ∷ []) (y ∷ ys)))
 
   -- each thing but the last has its comma
   listed_long : (bs : List ℕ) (x : A) (xs : List A) → Listed S bs (x ∷ xs) → length xs ≤ length bs
@@ -98,7 +98,7 @@ module _ {A : Type 0} (close : ℕ) (finish : List A → Tree) (add : List A →
 
   pub group_complete : is_blank close ≡ false → IsTrue (ends_value close) → (close == 44) ≡ false → ((text : List ℕ) (x : A) → S text x → Starts close text)
       → (inside : List ℕ) (xs : List A) (rest : List ℕ) → Enclosed S inside xs
-      → group close finish add inner (skip (inside ++ close ∷ rest)) ≡ Ok (finish (add_all add [] xs), rest)
+      → group inner close finish (skip (inside ++ close ∷ rest)) ≡ Ok (finish xs, rest)
   group_complete b e n starts inside [] rest i = rw (skip_to inside rest close i b, eq-eqb close close refl) refl
   group_complete b e n starts inside (x ∷ xs) rest i =
       let o = opened starts inside x xs i in
@@ -106,6 +106,6 @@ module _ {A : Type 0} (close : ℕ) (finish : List A → Tree) (add : List A →
       ap (λ z. skip (z ++ close ∷ rest)) o.3 ∙ ap skip (append_assoc o.0 (o.1 ∷ o.2) (close ∷ rest)) ∙ skip_to o.0 (o.2 ++ close ∷ rest) o.1 o.4 o.5 in
       let enough : length xs < length ((o.1 ∷ o.2) ++ close ∷ rest) =
       omega (arith, listed_long (o.1 ∷ o.2) x xs o.7, length-append (o.1 ∷ o.2) (close ∷ rest)) in
-      ap (group close finish add inner) front
-      ∙ ap (λ t. cond t (Ok (finish [], o.2 ++ close ∷ rest)) (several close finish add inner (length ((o.1 ∷ o.2) ++ close ∷ rest)) [] ((o.1 ∷ o.2) ++ close ∷ rest))) o.6
+      ap (group inner close finish) front
+      ∙ ap (λ t. cond t (Ok (finish [], o.2 ++ close ∷ rest)) (several inner close finish (length ((o.1 ∷ o.2) ++ close ∷ rest)) [] ((o.1 ∷ o.2) ++ close ∷ rest))) o.6
       ∙ several_complete b e n (length ((o.1 ∷ o.2) ++ close ∷ rest)) [] (o.1 ∷ o.2) x xs rest enough o.7

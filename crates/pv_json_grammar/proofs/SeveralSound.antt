@@ -5,9 +5,9 @@ use Rattle.std.specs.Prelude.{◌==◌}
 use Rattle.pv_number.specs.Scanning.{begins}
 use Rattle.pv_tree.specs.declared.Tree.{Tree}
 use Rattle.pv_json_grammar.specs.Reading.{Reads, is_blank, skip}
+use Rattle.pv_json_grammar.specs.Values.{behind, several, group}
 use Rattle.pv_json_grammar.specs.Spells.{IsBlank, Padded, Listed, Enclosed}
 use Rattle.pv_json_grammar.proofs.Binds.{bind_ok, ok_same, absurd_ok, chosen}
-use Rattle.pv_json_grammar.proofs.Several.{add_all, behind, several, group}
 
 -- a reader whose answers are spelled by S, behind white space
 abbrev pub IsSound : {A : Type 0} → (List ℕ → Reads A) → (List ℕ → A → Type 0) → Type 0
@@ -53,44 +53,44 @@ listed_lead S lead bs x [] b p = padded_lead S lead bs x b p
 listed_lead S lead bs x (y ∷ ys) b (first, more, e, p, q) =
     (lead ++ first, more, ap (λ z. lead ++ z) e ∙ sym (append_assoc lead first (44 ∷ more)), padded_lead S lead first x b p, q)
 
-module _ {A : Type 0} (close : ℕ) (finish : List A → Tree) (add : List A → A → List A) (inner : List ℕ → Reads A) (S : List ℕ → A → Type 0) where
+module _ {A : Type 0} (inner : List ℕ → Reads A) (close : ℕ) (finish : List A → Tree) (S : List ℕ → A → Type 0) where
   -- the things from here on, and what follows the closing bracket
   abbrev SeveralRead : List A → List ℕ → Tree × List ℕ → Type 0
-  SeveralRead all bs y = (x : A) × (xs : List A) × (inside : List ℕ) × (y.0 ≡ finish (add_all add all (x ∷ xs))) × (bs ≡ inside ++ close ∷ y.1) × Listed S inside (x ∷ xs)
+  SeveralRead all bs y = (x : A) × (xs : List A) × (inside : List ℕ) × (y.0 ≡ finish (all ++ x ∷ xs)) × (bs ≡ inside ++ close ∷ y.1) × Listed S inside (x ∷ xs)
 
   by_next : (k : ℕ) (all : List A) (bs : List ℕ) (y : Tree × List ℕ) (x : A)
-      → ((cs : List ℕ) → several close finish add inner k (add all x) cs ≡ Ok y → SeveralRead (add all x) cs y)
+      → ((cs : List ℕ) → several inner close finish k (all ++ x ∷ []) cs ≡ Ok y → SeveralRead (all ++ x ∷ []) cs y)
       → (after first : List ℕ) → bs ≡ first ++ after → Padded S first x
-      → behind close finish add inner (several close finish add inner k) (add all x) after ≡ Ok y → SeveralRead all bs y
+      → behind inner close finish (several inner close finish k) (all ++ x ∷ []) after ≡ Ok y → SeveralRead all bs y
   by_next k all bs y x more [] first b p e = absurd_ok _ _ e
-  by_next k all bs y x more (c ∷ cs) first b p e = elim (chosen (c == 44) (several close finish add inner k (add all x) cs) _ (Ok y) e) [
+  by_next k all bs y x more (c ∷ cs) first b p e = elim (chosen (c == 44) (several inner close finish k (all ++ x ∷ []) cs) _ (Ok y) e) [
     | inl h ↦ (let r = more cs h.1 in (
       x,
       r.0 ∷ r.1,
       first ++ 44 ∷ r.2,
-      r.3,
+      r.3 ∙ ap finish (append_assoc all (x ∷ []) (r.0 ∷ r.1)),
       b ∙ ap (λ d. first ++ d ∷ cs) (eqb-true c 44 h.0) ∙ ap (λ z. first ++ 44 ∷ z) r.4 ∙ sym (append_assoc first (44 ∷ r.2) (close ∷ y.1)),
       (first, r.2, refl, p, r.5),
     ))
-    | inr h ↦ elim (chosen (c == close) (Ok (finish (add all x), cs)) (Err (length cs + 1)) (Ok y) h.1) [
+    | inr h ↦ elim (chosen (c == close) (Ok (finish (all ++ x ∷ []), cs)) (Err (length cs + 1)) (Ok y) h.1) [
       | inl g ↦ (let same = ok_same _ _ g.1 in
           (x, [], first, ap (λ (z : Tree × List ℕ). z.0) (sym same), b ∙ ap (λ d. first ++ d ∷ cs) (eqb-true c close g.0) ∙ ap (λ (z : Tree × List ℕ). first ++ close ∷ z.1) same, p))
       | inr g ↦ absurd_ok _ _ g.1
     ]
   ]
 
-  several_sound : IsSound inner S → (k : ℕ) (all : List A) (bs : List ℕ) (y : Tree × List ℕ) → several close finish add inner k all bs ≡ Ok y → SeveralRead all bs y
+  several_sound : IsSound inner S → (k : ℕ) (all : List A) (bs : List ℕ) (y : Tree × List ℕ) → several inner close finish k all bs ≡ Ok y → SeveralRead all bs y
   unfolding several
   several_sound sound zero all bs y e = absurd_ok _ _ e
   several_sound sound (suc k) all bs y e =
-      let r = bind_ok (inner bs) (λ x. behind close finish add inner (several close finish add inner k) (add all x.0) (skip x.1)) y e in
+      let r = bind_ok (inner bs) (λ x. behind inner close finish (several inner close finish k) (all ++ x.0 ∷ []) (skip x.1)) y e in
       let s = sound bs r.0 r.1 in
       let p = padded S bs s.0 s.1 (r.0).1 (r.0).0 s.2 s.3 s.4 in
-      by_next k all bs y (r.0).0 (λ cs. several_sound sound k (add all (r.0).0) cs y) (skip (r.0).1) p.0 p.1 p.2 r.2
+      by_next k all bs y (r.0).0 (λ cs. several_sound sound k (all ++ (r.0).0 ∷ []) cs y) (skip (r.0).1) p.0 p.1 p.2 r.2
 
   -- what stands behind an opening bracket
   abbrev pub GroupRead : List ℕ → Tree × List ℕ → Type 0
-  GroupRead bs y = (inside : List ℕ) × (xs : List A) × (bs ≡ inside ++ close ∷ y.1) × Enclosed S inside xs × (y.0 ≡ finish (add_all add [] xs))
+  GroupRead bs y = (inside : List ℕ) × (xs : List A) × (bs ≡ inside ++ close ∷ y.1) × Enclosed S inside xs × (y.0 ≡ finish xs)
 
   nothing_inside : (bs lead r : List ℕ) (y : Tree × List ℕ) → bs ≡ lead ++ r → IsBlank lead → begins close r ≡ true
       → (let a : Reads Tree = Ok (finish [], drop 1 r) in a) ≡ Ok y → GroupRead bs y
@@ -104,10 +104,10 @@ module _ {A : Type 0} (close : ℕ) (finish : List A → Tree) (add : List A →
         ap (λ (z : Tree × List ℕ). z.0) (sym same),
       )
 
-  pub group_sound : IsSound inner S → (bs : List ℕ) (y : Tree × List ℕ) → group close finish add inner (skip bs) ≡ Ok y → GroupRead bs y
+  pub group_sound : IsSound inner S → (bs : List ℕ) (y : Tree × List ℕ) → group inner close finish (skip bs) ≡ Ok y → GroupRead bs y
   group_sound sound bs y e =
       let f = blank_front bs in
-      elim (chosen (begins close (skip bs)) (Ok (finish [], drop 1 (skip bs))) (several close finish add inner (length (skip bs)) [] (skip bs)) (Ok y) e) [
+      elim (chosen (begins close (skip bs)) (Ok (finish [], drop 1 (skip bs))) (several inner close finish (length (skip bs)) [] (skip bs)) (Ok y) e) [
         | inl h ↦ nothing_inside bs f.0 (skip bs) y f.2 f.1 h.0 h.1
         | inr h ↦ (let r = several_sound sound (length (skip bs)) [] (skip bs) y h.1 in
             (f.0 ++ r.2, r.0 ∷ r.1, f.2 ∙ ap (λ z. f.0 ++ z) r.4 ∙ sym (append_assoc f.0 r.2 (close ∷ y.1)), listed_lead S f.0 r.2 r.0 r.1 f.1 r.5, r.3))

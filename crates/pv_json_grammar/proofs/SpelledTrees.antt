@@ -1,21 +1,20 @@
 -- What is spelled is a tree of a document.
-use Rattle.std.proofs.Common.{◌≡◌, ℕ, zero, suc, true, false, List, [], ◌∷◌, sym, ap, ◌∙◌, subst, Ok}
+use Rattle.std.proofs.Common.{◌≡◌, ℕ, zero, suc, true, false, List, [], ◌∷◌, sym, ap, ◌∙◌, subst}
 use Rattle.std.proofs.lemmas.List.Elements.{All-from_recursion}
 use Rattle.std.specs.Prelude.{All, IsUtf8}
 use Rattle.std.specs.List.{AllByRecursion}
 use Rattle.pv_tree.specs.declared.Tree.{Tree, out-Tree, roll-Tree, out-roll-Tree}
 use Rattle.pv_tree.specs.declared.Tree.TheVariants.{rolls-Null, rolls-Bool, rolls-Num, rolls-Str, rolls-Array, rolls-Object}
 use Rattle.pv_tree.specs.declared.Tree.TheOpen.{Tree-F}
-use Rattle.pv_tree.specs.Merging.{merged}
+use Rattle.pv_tree.specs.Merging.{merged, object_of}
 use Rattle.pv_notation.specs.Compact.{compact}
-use Rattle.pv_json_grammar.specs.Values.{document}
+use Rattle.pv_json_grammar.specs.Documents.{whole, reading}
 use Rattle.pv_json_grammar.specs.SpelledStrings.{SpellsString}
 use Rattle.pv_json_grammar.specs.Spells.{SpellsScalar, spells_null, spells_true, spells_false, spells_number, spells_text, Listed, Enclosed, SpellsMember, SpellsValue, spells_scalar, spells_array, spells_object, Spells, SpellsDocument}
 use Rattle.pv_json_grammar.specs.DocumentTrees.{IsLevel, AreMembers, IsDocumentTree}
 use Rattle.pv_json_grammar.proofs.Utf8Kept.{units_utf8}
-use Rattle.pv_json_grammar.proofs.Names.{merged_distinct, merged_keeps}
-use Rattle.pv_json_grammar.proofs.ValueSound.{document_sound}
-use Rattle.pv_json_grammar.proofs.ValueComplete.{document_complete}
+use Rattle.pv_json_grammar.proofs.Names.{merged_keeps}
+use Rattle.pv_json_grammar.proofs.Readings.{reading_sound, reading_complete}
 use Rattle.pv_json_grammar.proofs.CompactSpelled.{document_tree_spelled}
 
 pub spelled_utf8 : (bs text : List ℕ) → SpellsString bs text → IsUtf8 text
@@ -51,10 +50,8 @@ module _ (S : List ℕ → Tree → Type 0) (Inner : Tree → Type 0) (holds : (
   value_level bs t (spells_array inside ts e i f) =
       opened (All Inner) (AreMembers Inner) (Tree-F.Array ts) t (rolls-Array ts ∙ sym f) (All-from_recursion Inner ts (each_enclosed S Inner holds inside ts i))
   value_level bs t (spells_object inside ms e i f) =
-      opened (All Inner) (AreMembers Inner) (Tree-F.Object (merged ms)) t (rolls-Object (merged ms) ∙ sym f) (
-        All-from_recursion (λ (m : List ℕ × Tree). IsUtf8 m.0 × Inner m.1) (merged ms) (merged_keeps IsUtf8 Inner ms (each_enclosed (SpellsMember S) (λ m. IsUtf8 m.0 × Inner m.1) member_holds inside ms i)),
-        merged_distinct ms,
-      )
+      opened (All Inner) (AreMembers Inner) (Tree-F.Object (object_of ms)) t (rolls-Object (object_of ms) ∙ sym f)
+      (All-from_recursion (λ (m : List ℕ × Tree). IsUtf8 m.0 × Inner m.1) (merged ms) (merged_keeps IsUtf8 Inner ms (each_enclosed (SpellsMember S) (λ m. IsUtf8 m.0 × Inner m.1) member_holds inside ms i)))
 
 pub spelled_tree : (n : ℕ) (bs : List ℕ) (t : Tree) → Spells n bs t → IsDocumentTree n t
 unfolding Spells IsDocumentTree
@@ -64,5 +61,5 @@ spelled_tree (suc n) bs t s = value_level (Spells n) (IsDocumentTree n) (spelled
 pub document_tree : (n : ℕ) (bs : List ℕ) (t : Tree) → SpellsDocument n bs t → IsDocumentTree n t
 document_tree n bs t d = spelled_tree n d.text t d.spells
 
-pub round_trip : (n : ℕ) (bs : List ℕ) (t : Tree) → document n bs ≡ Ok t → document n (compact t) ≡ Ok t
-round_trip n bs t e = document_complete n (compact t) t (document_tree_spelled n t (document_tree n bs t (document_sound n bs t e)))
+pub round_trip : (n : ℕ) (bs : List ℕ) (t : Tree) → reading n bs ≡ whole t → reading n (compact t) ≡ whole t
+round_trip n bs t e = reading_complete n (compact t) t (document_tree_spelled n t (document_tree n bs t (reading_sound n bs t e)))

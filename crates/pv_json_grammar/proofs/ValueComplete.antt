@@ -7,16 +7,15 @@ use Rattle.pv_number.specs.Grammar.{AllDigits, IsNumber, Stops, goes_on}
 use Rattle.pv_number.specs.Scanning.{is_digit}
 use Rattle.pv_tree.specs.declared.Tree.{Tree}
 use Rattle.pv_tree.specs.declared.Tree.TheVariants as tree
-use Rattle.pv_tree.specs.Merging.{merged}
+use Rattle.pv_tree.specs.Merging.{object_of}
 use Rattle.pv_json_grammar.specs.Reading.{Reads, past, after, is_blank, skip, number}
 use Rattle.pv_json_grammar.specs.Strings.{string}
-use Rattle.pv_json_grammar.specs.Values.{array, member, object, value_by, value, document}
+use Rattle.pv_json_grammar.specs.Values.{object_tree, array, member, object, value_by, value, document}
 use Rattle.pv_json_grammar.specs.SpelledStrings.{SpellsString, spelled}
 use Rattle.pv_json_grammar.specs.Spells.{SpellsScalar, spells_null, spells_true, spells_false, spells_number, spells_text, Enclosed, SpellsMember, SpellsValue, spells_scalar, spells_array, spells_object, Spells, SpellsDocument}
 use Rattle.pv_json_grammar.proofs.Binds.{ok_same}
 use Rattle.pv_json_grammar.proofs.Utf8.{not_same}
 use Rattle.pv_json_grammar.proofs.Utf8Kept.{string_complete}
-use Rattle.pv_json_grammar.proofs.Several.{push_item, put_member, array_is, object_is, all_items, all_members}
 use Rattle.pv_number.proofs.Completeness.{number_complete as number_scanned}
 use Rattle.pv_json_grammar.proofs.SeveralComplete.{Ends, IsComplete, Starts, skip_to, skip_all, skip_start, all_blank, group_complete}
 
@@ -127,20 +126,18 @@ module _ (arrays objects : List ℕ → Reads Tree) where
 
 array_complete : (inner : List ℕ → Reads Tree) (S : List ℕ → Tree → Type 0) → IsComplete inner S → ((text : List ℕ) (t : Tree) → S text t → Starts 93 text)
     → (inside : List ℕ) (items : List Tree) (more : List ℕ) → Enclosed S inside items → array inner ((inside ++ 93 ∷ []) ++ more) ≡ Ok (tree.Array items, more)
+unfolding array
 array_complete inner S complete starts inside items more i =
     ap (array inner) (append_assoc inside (93 ∷ []) more)
-    ∙ array_is inner (inside ++ 93 ∷ more)
-    ∙ group_complete 93 tree.Array push_item inner S complete refl refl refl starts inside items more i
-    ∙ ap (λ z. Ok (tree.Array z, more)) (all_items items)
+    ∙ group_complete inner 93 tree.Array S complete refl refl refl starts inside items more i
 
 object_complete : (inner : List ℕ → Reads Tree) (S : List ℕ → Tree → Type 0) → IsComplete inner S
     → (inside : List ℕ) (members : List (List ℕ × Tree)) (more : List ℕ) → Enclosed (SpellsMember S) inside members
-    → object inner ((inside ++ 125 ∷ []) ++ more) ≡ Ok (tree.Object (merged members), more)
+    → object inner ((inside ++ 125 ∷ []) ++ more) ≡ Ok (tree.Object (object_of members), more)
+unfolding object
 object_complete inner S complete inside members more i =
     ap (object inner) (append_assoc inside (125 ∷ []) more)
-    ∙ object_is inner (inside ++ 125 ∷ more)
-    ∙ group_complete 125 tree.Object put_member (member inner) (SpellsMember S) (member_complete inner S complete) refl refl refl (member_starts S) inside members more i
-    ∙ ap (λ z. Ok (tree.Object z, more)) (all_members members)
+    ∙ group_complete (member inner) 125 object_tree (SpellsMember S) (member_complete inner S complete) refl refl refl (member_starts S) inside members more i
 
 nesting_complete : (inner : List ℕ → Reads Tree) (S : List ℕ → Tree → Type 0) → IsComplete inner S → ((text : List ℕ) (t : Tree) → S text t → Starts 93 text)
     → (text more : List ℕ) (t : Tree) → SpellsValue S text t → Ends more

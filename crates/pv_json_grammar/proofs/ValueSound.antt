@@ -8,11 +8,10 @@ use Rattle.pv_tree.specs.declared.Tree.{Tree}
 use Rattle.pv_tree.specs.declared.Tree.TheVariants as tree
 use Rattle.pv_json_grammar.specs.Reading.{Reads, past, after, skip, number}
 use Rattle.pv_json_grammar.specs.Strings.{string}
-use Rattle.pv_json_grammar.specs.Values.{array, member, object, word, value_by, value, document}
+use Rattle.pv_json_grammar.specs.Values.{object_tree, array, member, object, word, value_by, value, document}
 use Rattle.pv_json_grammar.specs.Spells.{IsBlank, SpellsScalar, spells_null, spells_true, spells_false, spells_number, spells_text, SpellsMember, SpellsValue, spells_scalar, spells_array, spells_object, Spells, SpellsDocument}
 use Rattle.pv_json_grammar.proofs.Binds.{bind_ok, ok_same, absurd_ok, chosen}
 use Rattle.pv_json_grammar.proofs.StringSound.{string_sound}
-use Rattle.pv_json_grammar.proofs.Several.{push_item, put_member, array_is, object_is, all_items, all_members}
 use Rattle.pv_number.proofs.Soundness.{number_sound as number_scanned}
 use Rattle.pv_json_grammar.proofs.SeveralSound.{IsSound, blank_front, group_sound}
 
@@ -127,20 +126,22 @@ ValueRead S bs y = (lead : List ℕ) × (text : List ℕ) × (bs ≡ lead ++ (te
 
 array_sound : (inner : List ℕ → Reads Tree) (S : List ℕ → Tree → Type 0) → IsSound inner S → (bs : List ℕ) (y : Tree × List ℕ) → array inner bs ≡ Ok y
     → (text : List ℕ) × (91 ∷ bs ≡ text ++ y.1) × SpellsValue S text y.0
+unfolding array
 array_sound inner S sound bs y e =
-    let g = group_sound 93 tree.Array push_item inner S sound bs y (sym (array_is inner bs) ∙ e) in (
+    let g = group_sound inner 93 tree.Array S sound bs y e in (
       91 ∷ g.0 ++ 93 ∷ [],
       ap (λ z. 91 ∷ z) (g.2 ∙ sym (append_assoc g.0 (93 ∷ []) y.1)),
-      spells_array g.0 g.1 refl g.3 (g.4 ∙ ap tree.Array (all_items g.1)),
+      spells_array g.0 g.1 refl g.3 g.4,
     )
 
 object_sound : (inner : List ℕ → Reads Tree) (S : List ℕ → Tree → Type 0) → IsSound inner S → (bs : List ℕ) (y : Tree × List ℕ) → object inner bs ≡ Ok y
     → (text : List ℕ) × (123 ∷ bs ≡ text ++ y.1) × SpellsValue S text y.0
+unfolding object
 object_sound inner S sound bs y e =
-    let g = group_sound 125 tree.Object put_member (member inner) (SpellsMember S) (member_sound inner S sound) bs y (sym (object_is inner bs) ∙ e) in (
+    let g = group_sound (member inner) 125 object_tree (SpellsMember S) (member_sound inner S sound) bs y e in (
       123 ∷ g.0 ++ 125 ∷ [],
       ap (λ z. 123 ∷ z) (g.2 ∙ sym (append_assoc g.0 (125 ∷ []) y.1)),
-      spells_object g.0 g.1 refl g.3 (g.4 ∙ ap tree.Object (all_members g.1)),
+      spells_object g.0 g.1 refl g.3 g.4,
     )
 
 scalar_sound : (r lead bs : List ℕ) (y : Tree × List ℕ) → IsBlank lead → bs ≡ lead ++ r

@@ -1,6 +1,10 @@
--- The grammar of strings (RFC 8259, section 7, in UTF-8), apart from the reader: which bytes spell a text.
-use Rattle.std.specs.Prelude.{◌≡◌, ◌≢◌, ℕ, ◌+◌, ◌*◌, ◌<◌, ◌≤◌, List, [], ◌∷◌, ◌++◌, encode_utf8, ◌⊎◌}
+-- The grammar of strings (RFC 8259, section 7, in UTF-8), apart from the reader: which bytes spell
+-- a text.
+use Rattle.std.specs.Prelude.{◌≡◌, ◌≢◌, ℕ, ◌+◌, ◌*◌, ◌<◌, ◌≤◌, ◌⊎◌}
+use Rattle.std.specs.Prelude.{List, [], ◌∷◌, ◌++◌, encode_utf8}
 use Rattle.std.specs.Char.{IsScalar}
+use Rattle.pv_json_grammar.specs.Bytes.{space, quote, backslash, lower_u}
+use Rattle.pv_json_grammar.specs.Bytes.{first_high, first_low, past_surrogates}
 use Rattle.pv_json_grammar.specs.Strings.{escaped, hex_value, joined}
 
 -- four digits and their number
@@ -18,20 +22,28 @@ pub record Digits (text : List ℕ) (code : ℕ) : Type 0 where
 
 -- the spelling of one character, and its bytes
 pub data SpellsUnit (text bytes : List ℕ) : Type 0 where
-  raw_unit : (c : ℕ) → IsScalar c → 32 ≤ c → c ≢ 34 → c ≢ 92 → text ≡ encode_utf8 c → bytes ≡ encode_utf8 c → SpellsUnit text bytes
-  short_unit : (b : ℕ) → escaped b ≢ 0 → text ≡ 92 ∷ b ∷ [] → bytes ≡ escaped b ∷ [] → SpellsUnit text bytes
-  code_unit : (u : ℕ) (t : List ℕ) → Digits t u → (u < 55296) ⊎ (57344 ≤ u) → text ≡ 92 ∷ 117 ∷ t → bytes ≡ encode_utf8 u → SpellsUnit text bytes
-  pair_unit : (u v : ℕ) (s t : List ℕ) → Digits s u → Digits t v → 55296 ≤ u → u < 56320 → 56320 ≤ v → v < 57344
-      → text ≡ 92 ∷ 117 ∷ s ++ 92 ∷ 117 ∷ t → bytes ≡ encode_utf8 (joined u v) → SpellsUnit text bytes
+  raw_unit : (c : ℕ) → IsScalar c → space ≤ c → c ≢ quote → c ≢ backslash
+      → text ≡ encode_utf8 c → bytes ≡ encode_utf8 c → SpellsUnit text bytes
+  short_unit : (b : ℕ) → escaped b ≢ 0
+      → text ≡ backslash ∷ b ∷ [] → bytes ≡ escaped b ∷ [] → SpellsUnit text bytes
+  code_unit : (u : ℕ) (t : List ℕ) → Digits t u → (u < first_high) ⊎ (past_surrogates ≤ u)
+      → text ≡ backslash ∷ lower_u ∷ t → bytes ≡ encode_utf8 u → SpellsUnit text bytes
+  pair_unit : (u v : ℕ) (s t : List ℕ) → Digits s u → Digits t v
+      → first_high ≤ u → u < first_low → first_low ≤ v → v < past_surrogates
+      → text ≡ backslash ∷ lower_u ∷ s ++ backslash ∷ lower_u ∷ t
+      → bytes ≡ encode_utf8 (joined u v) → SpellsUnit text bytes
 
+-- each pair is the spelling of a character and its bytes
 abbrev pub AllUnits : List (List ℕ × List ℕ) → Type 0
 AllUnits [] = Unit {0}
 AllUnits (u ∷ us) = SpellsUnit u.0 u.1 × AllUnits us
 
+-- the spellings, one after another
 abbrev pub spelled : List (List ℕ × List ℕ) → List ℕ
 spelled [] = []
 spelled (u ∷ us) = u.0 ++ spelled us
 
+-- the bytes, one after another
 abbrev pub meant : List (List ℕ × List ℕ) → List ℕ
 meant [] = []
 meant (u ∷ us) = u.1 ++ meant us
@@ -40,5 +52,5 @@ meant (u ∷ us) = u.1 ++ meant us
 pub record SpellsString (text bytes : List ℕ) : Type 0 where
   pub units : List (List ℕ × List ℕ)
   pub each : AllUnits units
-  pub whole : text ≡ 34 ∷ spelled units ++ 34 ∷ []
+  pub whole : text ≡ quote ∷ spelled units ++ quote ∷ []
   pub means : bytes ≡ meant units

@@ -1,9 +1,12 @@
--- The grammar of JSON documents (RFC 8259, in UTF-8), apart from the reader: which bytes spell which tree.
+-- The grammar of JSON documents (RFC 8259, in UTF-8), apart from the reader: which bytes spell
+-- which tree.
 use Rattle.std.specs.Prelude.{◌≡◌, ℕ, zero, suc, true, false, IsTrue, List, [], ◌∷◌, ◌++◌, codes}
 use Rattle.pv_number.specs.Grammar.{IsNumber}
 use Rattle.pv_tree.specs.declared.Tree.{Tree}
 use Rattle.pv_tree.specs.declared.Tree.TheVariants as tree
 use Rattle.pv_tree.specs.Merging.{object_of}
+use Rattle.pv_json_grammar.specs.Bytes.{comma, colon}
+use Rattle.pv_json_grammar.specs.Bytes.{open_bracket, close_bracket, open_brace, close_brace}
 use Rattle.pv_json_grammar.specs.Reading.{is_blank}
 use Rattle.pv_json_grammar.specs.SpelledStrings.{SpellsString}
 
@@ -36,7 +39,9 @@ module _ {A : Type 0} (S : List ℕ → A → Type 0) where
   abbrev pub Listed : List ℕ → List A → Type 0
   Listed bs [] = ⊥
   Listed bs (x ∷ []) = Padded bs x
-  Listed bs (x ∷ y ∷ ys) = (first : List ℕ) × (more : List ℕ) × (bs ≡ first ++ 44 ∷ more) × Padded first x × Listed more (y ∷ ys)
+  Listed bs (x ∷ y ∷ ys) =
+      (first : List ℕ) × (more : List ℕ) × (bs ≡ first ++ comma ∷ more)
+      × Padded first x × Listed more (y ∷ ys)
 
   -- what may stand between two brackets
   abbrev pub Enclosed : List ℕ → List A → Type 0
@@ -51,17 +56,20 @@ module _ (S : List ℕ → Tree → Type 0) where
     pub before : List ℕ
     pub behind : List ℕ
     pub value : List ℕ
-    pub whole : bs ≡ name ++ (before ++ 58 ∷ (behind ++ value))
+    pub whole : bs ≡ name ++ (before ++ colon ∷ (behind ++ value))
     pub spells_name : SpellsString name m.0
     pub blank_before : IsBlank before
     pub blank_behind : IsBlank behind
     pub spells_value : S value m.1
 
-  -- A repeated name keeps its first place and takes its last value.
+  -- A value. Of an object, a repeated name keeps its first place and takes its last value.
   pub data SpellsValue (bs : List ℕ) (t : Tree) : Type 0 where
     spells_scalar : SpellsScalar bs t → SpellsValue bs t
-    spells_array : (inside : List ℕ) (items : List Tree) → bs ≡ 91 ∷ inside ++ 93 ∷ [] → Enclosed S inside items → t ≡ tree.Array items → SpellsValue bs t
-    spells_object : (inside : List ℕ) (members : List (List ℕ × Tree)) → bs ≡ 123 ∷ inside ++ 125 ∷ [] → Enclosed SpellsMember inside members
+    spells_array : (inside : List ℕ) (items : List Tree)
+        → bs ≡ open_bracket ∷ inside ++ close_bracket ∷ [] → Enclosed S inside items
+        → t ≡ tree.Array items → SpellsValue bs t
+    spells_object : (inside : List ℕ) (members : List (List ℕ × Tree))
+        → bs ≡ open_brace ∷ inside ++ close_brace ∷ [] → Enclosed SpellsMember inside members
         → t ≡ tree.Object (object_of members) → SpellsValue bs t
 
 -- a value in which at most so many containers nest

@@ -1,9 +1,12 @@
-//! What holds of the grammar and of reading. These functions do nothing: their contracts are the laws.
+//! What holds of the grammar and of reading. These functions do nothing: their contracts are the
+//! laws.
 
-ghost use Rattle.std.specs.Prelude.{◌≡◌, ◌≢◌, ◌≤◌, ◌<◌, ◌++◌, ◌∷◌, ℕ, List, length, Ok, All, IsUtf8};
+ghost use Rattle.std.specs.Prelude.{◌≡◌, ◌≢◌, ℕ, ◌≤◌, ◌<◌, Ok, All, IsUtf8};
+ghost use Rattle.std.specs.Prelude.{List, ◌++◌, ◌∷◌, length};
 ghost use Rattle.pv_tree.specs.declared.Tree.{Tree};
 ghost use Rattle.pv_notation.specs.Strings.{quoted};
 ghost use Rattle.pv_notation.specs.Compact.{compact};
+ghost use Rattle.pv_json_grammar.specs.Bytes.{line_feed, space, quote};
 ghost use Rattle.pv_json_grammar.specs.Strings.{string};
 ghost use Rattle.pv_json_grammar.specs.Documents.{whole, bad, reading};
 ghost use Rattle.pv_json_grammar.specs.SpelledStrings.{SpellsString};
@@ -12,12 +15,14 @@ ghost use Rattle.pv_json_grammar.specs.DocumentTrees.{IsDocumentTree};
 
 /// What spells a text is read as that text, whatever follows.
 pub fn strings_are_read()
-    ensures { (text bytes tail rest : List ℕ) → SpellsString text bytes → text ++ rest ≡ 34 ∷ tail → string tail ≡ Ok (bytes, rest) }
+    ensures { (text bytes tail rest : List ℕ) → SpellsString text bytes →
+        text ++ rest ≡ quote ∷ tail → string tail ≡ Ok (bytes, rest) }
 {}
 
 /// What is read as a text is spelled by the bytes that were taken, and is UTF-8.
 pub fn strings_are_spelled()
-    ensures spelled { (tail bytes rest : List ℕ) → string tail ≡ Ok (bytes, rest) → (text : List ℕ) × SpellsString text bytes × (34 ∷ tail ≡ text ++ rest) }
+    ensures spelled { (tail bytes rest : List ℕ) → string tail ≡ Ok (bytes, rest) →
+        (text : List ℕ) × SpellsString text bytes × (quote ∷ tail ≡ text ++ rest) }
     ensures utf8 { (tail bytes rest : List ℕ) → string tail ≡ Ok (bytes, rest) → IsUtf8 bytes }
 {}
 
@@ -38,7 +43,8 @@ pub fn faults_have_places()
 
 /// No bytes spell two trees.
 pub fn one_tree()
-    ensures { (n : ℕ) (bs : List ℕ) (t u : Tree) → SpellsDocument n bs t → SpellsDocument n bs u → t ≡ u }
+    ensures { (n : ℕ) (bs : List ℕ) (t u : Tree) →
+        SpellsDocument n bs t → SpellsDocument n bs u → t ≡ u }
 {}
 
 /// A text in quotes, with its escapes, spells that text.
@@ -58,11 +64,12 @@ pub fn documents_are_trees()
 
 /// The compact JSON of a tree that was read is read as that tree.
 pub fn compact_round_trip()
-    ensures { (n : ℕ) (bs : List ℕ) (t : Tree) → reading n bs ≡ whole t → reading n (compact t) ≡ whole t }
+    ensures { (n : ℕ) (bs : List ℕ) (t : Tree) →
+        reading n bs ≡ whole t → reading n (compact t) ≡ whole t }
 {}
 
 /// The compact JSON of a tree is one line, and holds no control character.
 pub fn compact_has_no_line_feed()
-    ensures line { (n : ℕ) (t : Tree) → IsDocumentTree n t → All (λ b. b ≢ 10) (compact t) }
-    ensures printed { (n : ℕ) (t : Tree) → IsDocumentTree n t → All (λ b. 32 ≤ b) (compact t) }
+    ensures line { (n : ℕ) (t : Tree) → IsDocumentTree n t → All (λ b. b ≢ line_feed) (compact t) }
+    ensures printed { (n : ℕ) (t : Tree) → IsDocumentTree n t → All (λ b. space ≤ b) (compact t) }
 {}

@@ -35,7 +35,7 @@ pub record Inside : Type 1 where
 abbrev pub body_step : (X Y : Type 0) → (X → Body) → (Y → Node) → (X → Inside) → (Y → Inside)
     → Body-F X Y → Inside
 body_step X Y body node bodies nodes b = record {
-  nodes = flat_map (λ y. node y ∷ (nodes y).nodes) (parts_at b)
+  nodes = flat_map (λ y. node y ∷ (nodes y).nodes) (parts_at b);
 }
 
 -- those inside a node, by those inside its body

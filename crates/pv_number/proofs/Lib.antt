@@ -9,3 +9,4 @@ pub mod NumberOrder
 pub mod NumberLaws
 pub mod WrittenIntegers
 pub mod FewDigits
+pub mod Places

@@ -1,13 +1,13 @@
 //! A number taken apart into its signs and digits.
 
-ghost use Rattle.std.specs.Prelude.{◌≡◌, ◌+◌, ◌-◌, ◌*◌, ◌^◌, ◌<◌, ◌≤◌, pos, SomeIff, length, take, drop, slice_index_or};
-ghost use Rattle.std.specs.List.{position_or_len};
+ghost use Rattle.std.specs.Prelude.{◌≡◌, ◌+◌, ◌-◌, ◌*◌, ◌^◌, ◌<◌, ◌≤◌, pos, SomeIff, length, slice_index_or};
 ghost use Rattle.pv_number.specs.ExactNumber as spec;
 ghost use Rattle.pv_number.specs.NumberEquality.{int_number};
 ghost use Rattle.pv_number.specs.Decimals.{digits, exponent_of, number_of, run};
 
 use crate::lexeme::Lexeme;
 use crate::scanning::begins;
+use crate::splitting::{letter_place, point_place, split_around, without_sign};
 
 #[derive(Clone, Copy)]
 pub(crate) struct Exponent<'a> {
@@ -42,55 +42,6 @@ pub(crate) fn digit_at(digits: &[u8], place: usize) -> u8
     match digits.get(place) {
         Some(byte) => digit_value(*byte),
         None => 0,
-    }
-}
-
-fn without_sign(text: &[u8]) -> &[u8]
-    ensures { result.now ≡ spec.without_sign text.now }
-{
-    if begins(b'-', text) || begins(b'+', text) {
-        &text[1..]
-    } else {
-        text
-    }
-}
-
-/// Where the exponent begins, or the length where there is none.
-fn letter_place(text: &[u8]) -> usize
-    ensures { result ≡ position_or_len spec.is_letter text.now }
-{
-    let mut place = 0;
-    for byte in text {
-        if *byte == b'e' || *byte == b'E' {
-            return place;
-        }
-        place += 1;
-    }
-    place
-}
-
-fn point_place(text: &[u8]) -> usize
-    ensures { result ≡ position_or_len spec.is_point text.now }
-{
-    let mut place = 0;
-    for byte in text {
-        if *byte == b'.' {
-            return place;
-        }
-        place += 1;
-    }
-    place
-}
-
-/// What stands before a place, and behind it.
-fn split_around(text: &[u8], place: usize) -> (&[u8], &[u8])
-    ensures before { result.0.now ≡ take place text.now }
-    ensures after { result.1.now ≡ drop (place + 1) text.now }
-{
-    if place < text.len() {
-        (&text[..place], &text[place + 1..])
-    } else {
-        (text, &[])
     }
 }
 

@@ -9,6 +9,7 @@ mod laws;
 mod lexeme;
 mod scanning;
 mod short;
+mod splitting;
 mod value;
 mod written;
 
@@ -16,6 +17,7 @@ pub use comparing::{compare, compare_int};
 pub use exact::Whole;
 pub use laws::{integers_are_whole, numbers_are_ordered, numbers_are_scanned, wholes_are_one};
 pub use lexeme::{Lexeme, LexemeFault};
-pub use scanning::number_len;
+pub use scanning::{begins, number_len};
+pub use splitting::{point_place, split_around, without_sign};
 pub use value::{is_integer, whole};
 pub use written::integer;

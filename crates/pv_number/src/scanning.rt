@@ -19,7 +19,8 @@ fn digits(s: &[u8]) -> usize
     n
 }
 
-pub(crate) fn begins(byte: u8, s: &[u8]) -> bool
+/// Whether the first byte is this one.
+pub fn begins(byte: u8, s: &[u8]) -> bool
     ensures { result ≡ spec.begins byte s.now }
 {
     match s {

@@ -1,58 +1,13 @@
 //! Texts as whole numbers.
 
-ghost use Rattle.std.specs.Prelude.{◌≡◌, ◌+◌, ◌-◌, ◌*◌, ◌^◌, min, take, drop, if◌then◌else◌, ◌&&◌, ◌||◌};
-ghost use Rattle.std.specs.List.{filter, list_all, position_or_len};
+ghost use Rattle.std.specs.Prelude.{◌≡◌, ◌+◌, ◌-◌, ◌*◌, ◌^◌, min, if◌then◌else◌, ◌&&◌, ◌||◌};
+ghost use Rattle.std.specs.List.{filter, list_all};
 ghost use Rattle.pv_number.specs.Scanning.{is_digit};
-ghost use Rattle.pv_number.specs.Scanning as scan;
 ghost use Rattle.pv_number.specs.ExactNumber as exact;
 ghost use Rattle.pv_numeric.specs.WholeNumbers.{whole_by};
 ghost use Rattle.pv_numeric.specs.NumericStrings as spec;
 
-use pv_number::Whole;
-
-fn begins(byte: u8, text: &[u8]) -> bool
-    ensures { result ≡ scan.begins byte text.now }
-{
-    match text {
-        [] => false,
-        [first, ..] => *first == byte,
-    }
-}
-
-fn without_sign(text: &[u8]) -> &[u8]
-    ensures { result.now ≡ exact.without_sign text.now }
-{
-    if begins(b'-', text) || begins(b'+', text) {
-        &text[1..]
-    } else {
-        text
-    }
-}
-
-fn point_place(text: &[u8]) -> usize
-    ensures { result ≡ position_or_len exact.is_point text.now }
-{
-    let mut place = 0;
-    for byte in text {
-        if *byte == b'.' {
-            return place;
-        }
-        place += 1;
-    }
-    place
-}
-
-/// What stands before a place, and behind it.
-fn split_around(text: &[u8], place: usize) -> (&[u8], &[u8])
-    ensures before { result.0.now ≡ take place text.now }
-    ensures after { result.1.now ≡ drop (place + 1) text.now }
-{
-    if place < text.len() {
-        (&text[..place], &text[place + 1..])
-    } else {
-        (text, &[])
-    }
-}
+use pv_number::{Whole, begins, point_place, split_around, without_sign};
 
 /// Whether the byte may stand in a number, behind a digit or not.
 fn may_stand(follows_digit: bool, byte: u8) -> bool

@@ -6,7 +6,6 @@ use Rattle.std.proofs.lemmas.Grind.{flat_map-append}
 use Rattle.std.specs.List.{AllByRecursion}
 use Rattle.std.specs.Option.{IfSome}
 use Rattle.pv_tree.specs.declared.Tree.{Tree, out-Tree}
-use Rattle.pv_tree.specs.declared.Tree.TheOpen.{Tree-F}
 use Rattle.pv_rules.specs.declared.SubType.{SubType}
 use Rattle.pv_rules.specs.declared.EnumMember.{EnumMember}
 use Rattle.pv_rules.specs.declared.Collection.{Collection}
@@ -19,13 +18,14 @@ use Rattle.pv_node.specs.declared.Body.TheVariants as body
 use Rattle.pv_node.specs.declared.Body.TheVariants.{rolls-Scalar, rolls-Sequence, rolls-Tuple, rolls-Dict, rolls-Nullable}
 use Rattle.pv_node.specs.declared.Body.TheOpen.{Body-F}
 use Rattle.pv_node.specs.Preorder.{preorder, parts_at, optional}
-use Rattle.pv_schema_values.specs.Levels.{items_at}
+use Rattle.pv_tree.specs.Parts.{items_at}
+use Rattle.pv_node.specs.Absent.{or_any}
 use Rattle.pv_schema_values.specs.Values.{literals_of, members_of, count_of, sub_type_of}
 use Rattle.pv_schema_values.specs.declared.ValueKind.TheVariants as value
 use Rattle.pv_schema.specs.Find.{find}
 use Rattle.pv_schema.specs.Table.{rows, kind_under}
 use Rattle.pv_schema.specs.Checking.{is_absent, misfit, misfits, place_fits, members_fit, is_below, are_of, all_are_of, items_size, size_of, checked}
-use Rattle.pv_schema.specs.Making.{node_of, nodes_of, nodes_level, or_empty, or_any, read, body_in, gather_rule, tuple_rule, enum_rule}
+use Rattle.pv_schema.specs.Making.{node_of, nodes_of, nodes_in, or_empty, read, body_in, gather_rule, tuple_rule, enum_rule}
 use Rattle.pv_schema.specs.Allowed.{HasItems, IsAllowed, IsAllowedBody, IsAllowedRule, IsSequence, IsEnum, AreBounds, HasNoPositions}
 use Rattle.pv_schema.specs.declared.kind.Kind.TheVariants as kind
 use Rattle.pv_schema.specs.declared.node_type.NodeType.{NodeType}
@@ -49,16 +49,12 @@ below_is : (o : Option ℕ) (n : ℕ) → is_below o n ≡ true → IfSome o (λ
 below_is None n e = tt
 below_is (Some v) n e = ltb-true v n e
 
-level_counted : (x : Tree-F Tree) → length (nodes_level x) ≡ size_of (items_at x)
-level_counted Tree-F.Null = refl
-level_counted (Tree-F.Bool b) = refl
-level_counted (Tree-F.Num lexeme) = refl
-level_counted (Tree-F.Str text) = refl
-level_counted (Tree-F.Array ts) = length-map ts node_of
-level_counted (Tree-F.Object ms) = refl
+list_counted : (o : Option (List Tree)) → length (nodes_in o) ≡ size_of o
+list_counted None = refl
+list_counted (Some ts) = length-map ts node_of
 
 counted : (t : Tree) → length (nodes_of t) ≡ items_size t
-counted t = ap length (nodes_opens t) ∙ level_counted (out-Tree t)
+counted t = ap length (nodes_opens t) ∙ list_counted (items_at (out-Tree t))
 
 place_is : (key : List ℕ) (place items : Option Tree) → is_some items ≡ true → misfit (λ t. t) checked key place_fits place items ≡ []
     → IfSome (read count_of place) (λ v. v < length (or_empty (option_map nodes_of items)))

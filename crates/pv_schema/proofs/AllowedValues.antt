@@ -1,5 +1,5 @@
 -- What a tree stands for under a key is allowed, whatever else is wrong: counts and versions are within their bounds, and lists have something in them.
-use Rattle.std.proofs.Common.{◌≡◌, ℕ, ◌≤◌, Bool, true, false, ◌&&◌, if◌then◌else◌, List, [], ◌∷◌, ℤ, pos, negsuc, Option, None, Some, is_some, nat_le, refl, arith, leb-true}
+use Rattle.std.proofs.Common.{◌≡◌, ℕ, ◌≤◌, Bool, true, false, ◌&&◌, if◌then◌else◌, List, [], ◌∷◌, ℤ, pos, negsuc, Option, None, Some, is_some, nat_le, option_map, refl, arith, leb-true}
 use Rattle.std.proofs.lemmas.Bool.{and_parts, false≢true}
 use Rattle.std.specs.List.{AllByRecursion}
 use Rattle.std.specs.Option.{IfSome}
@@ -7,9 +7,10 @@ use Rattle.pv_number.specs.WrittenIntegers.{integer}
 use Rattle.pv_tree.specs.declared.Tree.{Tree, out-Tree}
 use Rattle.pv_tree.specs.declared.Tree.TheOpen.{Tree-F}
 use Rattle.pv_rules.specs.declared.Literal.{Literal}
+use Rattle.pv_rules.specs.declared.Literal.TheVariants as literal
 use Rattle.pv_rules.specs.declared.EnumMember.{EnumMember}
-use Rattle.pv_schema_values.specs.Levels.{items_at}
-use Rattle.pv_schema_values.specs.Values.{int_of, natural_within, count_of, positive, positive_of, version_of, put_first, all_of, some_of, some_in, text_of, texts_of, int_literal, literal_of, literals_of, member_value_at, member_value_of, member_by, member_in, member_of, are_members, where_distinct, members_of}
+use Rattle.pv_tree.specs.Parts.{items_at}
+use Rattle.pv_schema_values.specs.Values.{int_of, natural_within, count_of, positive, positive_of, version_of, put_first, all_of, some_of, some_in, text_of, texts_of, literal_of, literals_of, member_value_at, member_value_of, member_by, member_in, member_of, are_members, where_distinct, members_of}
 use Rattle.pv_schema.specs.Making.{read, or_empty}
 use Rattle.pv_schema.specs.Allowed.{IsCount, HasItems, IsPositive, IsVersion, IsIntOrText}
 
@@ -123,7 +124,7 @@ literals = read_is HasItems literals_of literals_is
 abbrev HasValue : EnumMember → Type 0
 HasValue m = IsIntOrText m.value
 
-int_is : (o : Option ℤ) → IfSome (int_literal o) IsIntOrText
+int_is : (o : Option ℤ) → IfSome (option_map literal.Int o) IsIntOrText
 int_is None = tt
 int_is (Some n) = tt
 
@@ -133,7 +134,7 @@ value_by (Tree-F.Bool b) = tt
 value_by (Tree-F.Num lexeme) = int_is (integer lexeme)
 value_by (Tree-F.Str text) = tt
 value_by (Tree-F.Array ts) = tt
-value_by (Tree-F.Object ms) = tt
+value_by (Tree-F.Object d) = tt
 
 value_is : (t : Tree) → IfSome (member_value_of t) IsIntOrText
 unfolding member_value_of

@@ -1,6 +1,8 @@
 -- A tree with which nothing is wrong is a schema that is allowed, by induction on trees.
-use Rattle.std.proofs.Common.{◌≡◌, ℕ, ◌+◌, Bool, true, false, if◌then◌else◌, List, [], ◌∷◌, map, codes, Option, None, Result, Ok, Err, flat_map, refl, ap, sym, ◌∙◌, subst}
+use Rattle.std.proofs.Common.{◌≡◌, ℕ, ◌+◌, Bool, true, false, if◌then◌else◌, List, [], ◌∷◌, map, Option, None, Result, Ok, Err, flat_map, refl, ap, sym, ◌∙◌, subst}
+use Rattle.std.specs.Prelude.{IfOk}
 use Rattle.std.specs.List.{AllByRecursion}
+use Rattle.pv_tree.specs.Parts.{items_at, members_at}
 use Rattle.pv_tree.specs.declared.Step.TheVariants.{Index}
 use Rattle.pv_tree.specs.declared.Tree.{Tree, out-Tree, out-roll-Tree, map-Tree}
 use Rattle.pv_tree.specs.declared.Tree.TheOpen.{Tree-F}
@@ -10,12 +12,11 @@ use Rattle.pv_node.specs.declared.Node.{Node, roll-Node, out-roll-Node}
 use Rattle.pv_node.specs.declared.Body.{Body, out-Body}
 use Rattle.pv_node.specs.Preorder.{preorder}
 use Rattle.pv_node.proofs.Openings.{opens}
-use Rattle.pv_schema.specs.Find.{find}
 use Rattle.pv_schema.specs.Table.{rows, kind_under}
-use Rattle.pv_schema.specs.Checking.{schema_faults, member_faults, members_faults, places_faults, rest_faults, missing_in, misfits, checked, type_in, schema_level, schemas_level}
-use Rattle.pv_schema.specs.Making.{node_of, body_in, members_node, node_level, nodes_level}
+use Rattle.pv_schema.specs.Checking.{schema_faults, member_faults, members_faults, places_faults, rest_faults, missing_in, misfits, checked, type_among, schema_in, schemas_in}
+use Rattle.pv_schema.specs.Making.{node_of, body_in, members_node, node_in, nodes_in}
 use Rattle.pv_schema.specs.Answers.{first}
-use Rattle.pv_schema.specs.Reading.{schema_of, schema_by}
+use Rattle.pv_schema.specs.Reading.{schema_of, schema_by, counted, Reads}
 use Rattle.pv_schema.specs.Allowed.{IsAllowed, AreAllowed}
 use Rattle.pv_schema.specs.declared.fault.Refusal.{Refusal}
 use Rattle.pv_schema.specs.declared.fault.SchemaFault.{SchemaFault}
@@ -60,7 +61,7 @@ AreInside (Tree-F.Bool b) = Unit {0}
 AreInside (Tree-F.Num lexeme) = Unit {0}
 AreInside (Tree-F.Str text) = Unit {0}
 AreInside (Tree-F.Array ts) = AllByRecursion IsSound ts
-AreInside (Tree-F.Object ms) = AllByRecursion (λ m. IsSound m.1) ms
+AreInside (Tree-F.Object d) = AllByRecursion (λ m. IsSound m.1) d.members
 
 items_held : (es : List ((t : Tree) × IsSound t)) → AllByRecursion IsSound (map (λ e. e.0) es)
 items_held [] = tt
@@ -76,11 +77,11 @@ held (Tree-F.Bool b) = tt
 held (Tree-F.Num lexeme) = tt
 held (Tree-F.Str text) = tt
 held (Tree-F.Array ts) = items_held ts
-held (Tree-F.Object ms) = members_held ms
+held (Tree-F.Object d) = members_held d.members
 
 record IsSoundLevel (x : Tree-F Tree) : Type 0 where
-  as_schema : schema_level x ≡ [] → AllByRecursion IsAllowed (preorder (node_level x))
-  as_schemas : schemas_level x ≡ [] → AllByRecursion IsAllowed (flat_map preorder (nodes_level x))
+  as_schema : schema_in (members_at x) ≡ [] → AllByRecursion IsAllowed (preorder (node_in (members_at x)))
+  as_schemas : schemas_in (items_at x) ≡ [] → AllByRecursion IsAllowed (flat_map preorder (nodes_in (items_at x)))
 
 level_is : (x : Tree-F Tree) → AreInside x → IsSoundLevel x
 level_is Tree-F.Null h = record { as_schema = λ e. cc; as_schemas = λ e. tt }
@@ -88,7 +89,7 @@ level_is (Tree-F.Bool b) h = record { as_schema = λ e. cc; as_schemas = λ e. t
 level_is (Tree-F.Num lexeme) h = record { as_schema = λ e. cc; as_schemas = λ e. tt }
 level_is (Tree-F.Str text) h = record { as_schema = λ e. cc; as_schemas = λ e. tt }
 level_is (Tree-F.Array ts) h = record { as_schema = λ e. cc; as_schemas = items_are 0 ts h }
-level_is (Tree-F.Object ms) h = record { as_schema = members_are (type_in (λ t. t) (find (codes "type") ms)) ms h; as_schemas = λ e. tt }
+level_is (Tree-F.Object d) h = record { as_schema = members_are (type_among d.members) d.members h; as_schemas = λ e. tt }
 
 by_level : (t : Tree) → IsSoundLevel (out-Tree t) → IsSound t
 by_level t l = record {
@@ -111,6 +112,11 @@ nothing_wrong (r ∷ rs) n root e = cc
 pub right_is_allowed : (t : Tree) (n : Node) → schema_faults t ≡ [] → n ≡ node_of t → AreAllowed n
 unfolding AreAllowed
 right_is_allowed t n e is = subst (λ m. AllByRecursion IsAllowed (preorder m)) (sym is) ((sound t).as_schema e)
+
+pub counted_is_allowed : (r : Result Node SchemaFault) (t : Tree) (n : Node) → schema_faults t ≡ [] → n ≡ node_of t → Reads r (counted n)
+    → IfOk r (λ s. AreAllowed s)
+counted_is_allowed (Ok s) t n e is reads = right_is_allowed t s e (sym (few_enough _ n s _ reads) ∙ is)
+counted_is_allowed (Err f) t n e is reads = tt
 
 pub read_is_allowed : (t : Tree) (root : Node) → schema_of t ≡ Ok root → AreAllowed root
 unfolding schema_of

@@ -12,8 +12,9 @@ use Rattle.pv_schema.specs.declared.check_fault.CheckFault.{CheckFault}
 use Rattle.pv_tree.specs.declared.Tree.TheOpen.{Tree-F}
 use Rattle.pv_schema.specs.Find.{find}
 use Rattle.pv_schema.specs.Table.{Rows, Row, rows, kind_under}
-use Rattle.pv_schema_values.specs.Levels.{items_at, members_at}
-use Rattle.pv_schema.specs.Checking.{Checked, checked, check_step, schema_faults, schemas_faults, type_in, misfit, misfits, key_faults, node_faults, object_faults, item_faults, list_faults, missing_in, is_absent, place_fits, members_fit, at_key, all_under, faults, faults_under, faults_below, member_faults, places_faults, rest_faults, members_faults, schema_level, schemas_level}
+use Rattle.pv_tree.specs.Names.{Distinct}
+use Rattle.pv_tree.specs.Parts.{items_at, members_at}
+use Rattle.pv_schema.specs.Checking.{Checked, checked, check_step, schema_faults, schemas_faults, type_in, misfit, misfits, key_faults, node_faults, object_faults, item_faults, list_faults, missing_in, is_absent, place_fits, members_fit, at_key, all_under, faults, faults_under, faults_below, member_faults, places_faults, rest_faults, members_faults, type_among, schema_in, schemas_in}
 use Rattle.pv_schema.specs.declared.fault.Refusal.{Refusal}
 use Rattle.pv_schema.specs.declared.fault.Code.TheVariants.{Shape}
 use Rattle.pv_schema.specs.declared.fault.ShapeCode.TheVariants.{MissingKey}
@@ -101,7 +102,8 @@ natural X v k (Tree-F.Bool b) = refl
 natural X v k (Tree-F.Num l) = refl
 natural X v k (Tree-F.Str s) = refl
 natural X v k (Tree-F.Array xs) = ap (λ fs. record { schema = object_faults (λ y. y) k None; schemas = fs }) (items_mapped v k 0 xs)
-natural X v k (Tree-F.Object ms) = ap (λ fs. record { schema = fs; schemas = list_faults (λ y. y) k None }) (object_mapped v k ms)
+natural X v k (Tree-F.Object d) =
+    ap (λ fs. record { schema = fs; schemas = list_faults (λ y. y) k None }) (object_mapped v k d.members)
 
 pub checked_opens : (t : Tree) → checked t ≡ check_step Tree (λ u. u) checked (out-Tree t)
 checked_opens t = ap checked (sym (roll-out-Tree t)) ∙ rec-roll-Tree Checked check_step natural (out-Tree t)
@@ -126,45 +128,36 @@ unfolding schema_faults
 items_are i [] = refl
 items_are i (t ∷ ts) = ap (λ more. all_under (Index i) (checked t).schema ++ more) (items_are (i + 1) ts)
 
-schema_by : (x : Tree-F Tree) → object_faults (λ t. t) checked (members_at x) ≡ schema_level x
-schema_by Tree-F.Null = refl
-schema_by (Tree-F.Bool b) = refl
-schema_by (Tree-F.Num l) = refl
-schema_by (Tree-F.Str s) = refl
-schema_by (Tree-F.Array ts) = refl
-schema_by (Tree-F.Object ms) = node_is (type_in (λ t. t) (find (codes "type") ms)) ms
+schema_by : (o : Option (List (List ℕ × Tree))) → object_faults (λ t. t) checked o ≡ schema_in o
+schema_by None = refl
+schema_by (Some ms) = node_is (type_among ms) ms
 
-schemas_by : (x : Tree-F Tree) → list_faults (λ t. t) checked (items_at x) ≡ schemas_level x
-schemas_by Tree-F.Null = refl
-schemas_by (Tree-F.Bool b) = refl
-schemas_by (Tree-F.Num l) = refl
-schemas_by (Tree-F.Str s) = refl
-schemas_by (Tree-F.Array ts) = items_are 0 ts
-schemas_by (Tree-F.Object ms) = refl
+schemas_by : (o : Option (List Tree)) → list_faults (λ t. t) checked o ≡ schemas_in o
+schemas_by None = refl
+schemas_by (Some ts) = items_are 0 ts
 
-pub schema_opens : (t : Tree) → schema_faults t ≡ schema_level (out-Tree t)
+pub schema_opens : (t : Tree) → schema_faults t ≡ schema_in (members_at (out-Tree t))
 unfolding schema_faults
-schema_opens t = ap (λ c. c.schema) (checked_opens t) ∙ schema_by (out-Tree t)
+schema_opens t = ap (λ c. c.schema) (checked_opens t) ∙ schema_by (members_at (out-Tree t))
 
-pub schemas_opens : (t : Tree) → schemas_faults t ≡ schemas_level (out-Tree t)
+pub schemas_opens : (t : Tree) → schemas_faults t ≡ schemas_in (items_at (out-Tree t))
 unfolding schemas_faults
-schemas_opens t = ap (λ c. c.schemas) (checked_opens t) ∙ schemas_by (out-Tree t)
+schemas_opens t = ap (λ c. c.schemas) (checked_opens t) ∙ schemas_by (items_at (out-Tree t))
 
-pub object_opened : (ms : List (List ℕ × Tree)) → out-Tree (tree.Object ms) ≡ Tree-F.Object ms
-object_opened ms = ap out-Tree (sym (rolls-Object ms)) ∙ out-roll-Tree (Tree-F.Object ms)
+pub object_opened : (d : Distinct Tree) → out-Tree (tree.Object d) ≡ Tree-F.Object d
+object_opened d = ap out-Tree (sym (rolls-Object d)) ∙ out-roll-Tree (Tree-F.Object d)
 
 pub array_opened : (ts : List Tree) → out-Tree (tree.Array ts) ≡ Tree-F.Array ts
 array_opened ts = ap out-Tree (sym (rolls-Array ts)) ∙ out-roll-Tree (Tree-F.Array ts)
 
-pub object_answers : {T : Type 0} (r : Result T CheckFault) (t : Tree) (ms all : List (List ℕ × Tree)) → t ≡ tree.Object ms → all ≡ ms
-    → Answers r (members_faults (type_in (λ u. u) (find (codes "type") all)) all) → Answers r (schema_faults t)
-object_answers r t ms all e f a =
-    subst (Answers r)
-    (ap (λ os. members_faults (type_in (λ u. u) (find (codes "type") os)) os) f
-    ∙ sym (schema_opens t ∙ ap schema_level (ap out-Tree e ∙ object_opened ms)))
-    a
+pub object_answers : {T : Type 0} (r : Result T CheckFault) (t : Tree) (d : Distinct Tree) → t ≡ tree.Object d
+    → Answers r (members_faults (type_among d.members) d.members) → Answers r (schema_faults t)
+object_answers r t d e a =
+    subst (Answers r) (sym (schema_opens t ∙ ap (λ x. schema_in (members_at x)) (ap out-Tree e ∙ object_opened d))) a
 
 pub array_answers : {T : Type 0} (r : Result T CheckFault) (t : Tree) (ts all : List Tree) → t ≡ tree.Array ts → all ≡ ts
     → Answers r (places_faults 0 all) → Answers r (schemas_faults t)
 array_answers r t ts all e f a =
-    subst (Answers r) (ap (places_faults 0) f ∙ sym (schemas_opens t ∙ ap schemas_level (ap out-Tree e ∙ array_opened ts))) a
+    subst (Answers r)
+    (ap (places_faults 0) f ∙ sym (schemas_opens t ∙ ap (λ x. schemas_in (items_at x)) (ap out-Tree e ∙ array_opened ts)))
+    a

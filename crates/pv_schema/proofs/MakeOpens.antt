@@ -8,10 +8,11 @@ use Rattle.pv_tree.specs.declared.Tree.{Tree, out-Tree, rec-roll-Tree, roll-out-
 use Rattle.pv_tree.specs.declared.Tree.TheOpen.{Tree-F}
 use Rattle.pv_tree.specs.declared.Tree.TheVariants as tree
 use Rattle.pv_schema_values.specs.Values.{flag_of}
-use Rattle.pv_schema_values.specs.Levels.{items_at, members_at}
+use Rattle.pv_tree.specs.Names.{Distinct}
+use Rattle.pv_tree.specs.Parts.{items_at, members_at}
 use Rattle.pv_schema.specs.Find.{find}
-use Rattle.pv_schema.specs.Checking.{type_in}
-use Rattle.pv_schema.specs.Making.{Made, made, make_step, node_of, nodes_of, node_named, read, body_in, members_node, object_node, list_nodes, node_level, nodes_level}
+use Rattle.pv_schema.specs.Checking.{type_in, type_among}
+use Rattle.pv_schema.specs.Making.{Made, made, make_step, node_of, nodes_of, node_named, read, body_in, members_node, object_node, list_nodes, node_in, nodes_in}
 use Rattle.pv_schema.specs.declared.fault.Refusal.{Refusal}
 use Rattle.pv_node.specs.declared.Node.{Node, roll-Node}
 use Rattle.pv_node.specs.declared.Body.{Body}
@@ -47,7 +48,8 @@ natural X v k (Tree-F.Bool b) = refl
 natural X v k (Tree-F.Num l) = refl
 natural X v k (Tree-F.Str s) = refl
 natural X v k (Tree-F.Array xs) = ap (λ ns. record { node = object_node (λ y. y) k None; nodes = ns }) (sym (map-map (λ u. (k u).node) v xs))
-natural X v k (Tree-F.Object ms) = ap (λ n. record { node = n; nodes = list_nodes (λ y. y) k None }) (object_mapped v k ms)
+natural X v k (Tree-F.Object d) =
+    ap (λ n. record { node = n; nodes = list_nodes (λ y. y) k None }) (object_mapped v k d.members)
 
 made_opens : (t : Tree) → made t ≡ make_step Tree (λ u. u) made (out-Tree t)
 made_opens t = ap made (sym (roll-out-Tree t)) ∙ rec-roll-Tree Made make_step natural (out-Tree t)
@@ -65,48 +67,47 @@ same_option (Some y) = refl
 same_named : (ms : List (List ℕ × Tree)) → renamed ms ≡ named ms
 same_named ms = fun_ext (λ key. same_option (find key ms))
 
-node_by : (x : Tree-F Tree) → object_node (λ t. t) made (members_at x) ≡ node_level x
+node_by : (o : Option (List (List ℕ × Tree))) → object_node (λ t. t) made o ≡ node_in o
 unfolding node_of nodes_of
-node_by Tree-F.Null = refl
-node_by (Tree-F.Bool b) = refl
-node_by (Tree-F.Num l) = refl
-node_by (Tree-F.Str s) = refl
-node_by (Tree-F.Array ts) = refl
-node_by (Tree-F.Object ms) =
-    ap (λ f. node_named f (λ key. option_map node_of (find key ms)) (λ key. option_map nodes_of (find key ms)) (type_in (λ t. t) (find (codes "type") ms)))
+node_by None = refl
+node_by (Some ms) =
+    ap (λ f. node_named f (λ key. option_map node_of (find key ms)) (λ key. option_map nodes_of (find key ms)) (type_among ms))
     (same_named ms)
 
-nodes_by : (x : Tree-F Tree) → list_nodes (λ t. t) made (items_at x) ≡ nodes_level x
+nodes_by : (o : Option (List Tree)) → list_nodes (λ t. t) made o ≡ nodes_in o
 unfolding node_of
-nodes_by Tree-F.Null = refl
-nodes_by (Tree-F.Bool b) = refl
-nodes_by (Tree-F.Num l) = refl
-nodes_by (Tree-F.Str s) = refl
-nodes_by (Tree-F.Array ts) = refl
-nodes_by (Tree-F.Object ms) = refl
+nodes_by None = refl
+nodes_by (Some ts) = refl
 
-pub node_opens : (t : Tree) → node_of t ≡ node_level (out-Tree t)
+pub node_opens : (t : Tree) → node_of t ≡ node_in (members_at (out-Tree t))
 unfolding node_of
-node_opens t = ap (λ m. m.node) (made_opens t) ∙ node_by (out-Tree t)
+node_opens t = ap (λ m. m.node) (made_opens t) ∙ node_by (members_at (out-Tree t))
 
-pub nodes_opens : (t : Tree) → nodes_of t ≡ nodes_level (out-Tree t)
+pub nodes_opens : (t : Tree) → nodes_of t ≡ nodes_in (items_at (out-Tree t))
 unfolding nodes_of
-nodes_opens t = ap (λ m. m.nodes) (made_opens t) ∙ nodes_by (out-Tree t)
+nodes_opens t = ap (λ m. m.nodes) (made_opens t) ∙ nodes_by (items_at (out-Tree t))
 
 -- a node of a type, put together
-pub node_made : (r : Result NodeType Refusal) (n : NodeType) (ms : List (List ℕ × Tree)) (strict : Option Bool) (b : Body) → Some n ≡ result_ok r
+node_named_by : (r : Result NodeType Refusal) (n : NodeType) (ms : List (List ℕ × Tree)) (strict : Option Bool) (b : Body) → Some n ≡ result_ok r
     → strict ≡ read flag_of (find (codes "strict") ms) → b ≡ body_in n ms → roll-Node (record { own_ref = None; strict = strict; body = b }) ≡ members_node r ms
-node_made (Err e) n ms strict b found f g = cc
-node_made (Ok m) n ms strict b found f g =
+node_named_by (Err e) n ms strict b found f g = cc
+node_named_by (Ok m) n ms strict b found f g =
     let same : n ≡ m = cc in
     ap (λ x. roll-Node (record { own_ref = None; strict = x; body = b })) f
     ∙ ap (λ x. roll-Node (record { own_ref = None; strict = read flag_of (find (codes "strict") ms); body = x })) (g ∙ ap (λ k. body_in k ms) same)
 
-pub object_made : (n : Node) (t : Tree) (ms all : List (List ℕ × Tree)) → t ≡ tree.Object ms → all ≡ ms
-    → n ≡ members_node (type_in (λ u. u) (find (codes "type") all)) all → n ≡ node_of t
-object_made n t ms all e f g =
-    g ∙ ap (λ os. members_node (type_in (λ u. u) (find (codes "type") os)) os) f
-    ∙ sym (node_opens t ∙ ap node_level (ap out-Tree e ∙ object_opened ms))
+pub node_made : (n : NodeType) (ms all : List (List ℕ × Tree)) (strict : Option Bool) (b : Body) → all ≡ ms → Some n ≡ result_ok (type_among all)
+    → strict ≡ read flag_of (find (codes "strict") all) → b ≡ body_in n ms
+    → roll-Node (record { own_ref = None; strict = strict; body = b }) ≡ members_node (type_among ms) ms
+node_made n ms all strict b e found f g =
+    node_named_by (type_among ms) n ms strict b (found ∙ ap (λ os. result_ok (type_among os)) e)
+    (f ∙ ap (λ os. read flag_of (find (codes "strict") os)) e)
+    g
+
+pub object_made : (n : Node) (t : Tree) (d : Distinct Tree) → t ≡ tree.Object d → n ≡ members_node (type_among d.members) d.members
+    → n ≡ node_of t
+object_made n t d e g = g ∙ sym (node_opens t ∙ ap (λ x. node_in (members_at x)) (ap out-Tree e ∙ object_opened d))
 
 pub array_made : (ns : List Node) (t : Tree) (ts all : List Tree) → t ≡ tree.Array ts → all ≡ ts → ns ≡ map node_of all → ns ≡ nodes_of t
-array_made ns t ts all e f g = g ∙ ap (map node_of) f ∙ sym (nodes_opens t ∙ ap nodes_level (ap out-Tree e ∙ array_opened ts))
+array_made ns t ts all e f g =
+    g ∙ ap (map node_of) f ∙ sym (nodes_opens t ∙ ap (λ x. nodes_in (items_at x)) (ap out-Tree e ∙ array_opened ts))

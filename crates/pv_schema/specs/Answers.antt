@@ -6,24 +6,27 @@ use Rattle.pv_schema.specs.declared.fault.Refusal.{Refusal}
 use Rattle.pv_schema.specs.declared.check_fault.CheckFault.{CheckFault}
 use Rattle.pv_schema.specs.declared.check_fault.CheckFault.TheVariants as fault
 
+-- the first of several, where there is one
 abbrev pub first : {X : Type 0} → List X → Option X
 first [] = None
 first (x ∷ xs) = Some x
 
--- want of memory says nothing
+-- a fault is the first of all that is wrong; want of memory says nothing
 abbrev pub FailsBy : CheckFault → List Refusal → Type 0
 FailsBy fault.Memory all = Unit {0}
 FailsBy (fault.Refused r) all = first all ≡ Some r
 
+-- an answer says what is wrong: nothing, or the first of all
 abbrev pub Answers : {T : Type 0} → Result T CheckFault → List Refusal → Type 0
 Answers (Ok x) all = all ≡ []
 Answers (Err e) all = FailsBy e all
 
--- a value, or why there is none
+-- a fault says why there is no value; want of memory says nothing
 abbrev pub IsRefused : {T : Type 0} → CheckFault → Result T Refusal → Type 0
 IsRefused fault.Memory found = Unit {0}
 IsRefused (fault.Refused r) found = found ≡ Err r
 
+-- an answer is a value, or says why there is none
 abbrev pub Gives : {T : Type 0} → Result T CheckFault → Result T Refusal → Type 0
 Gives (Ok x) found = found ≡ Ok x
 Gives (Err e) found = IsRefused e found

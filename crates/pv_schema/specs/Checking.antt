@@ -1,8 +1,12 @@
 -- All that is wrong with a schema, in the order in which it is refused.
--- A node that is no object, or whose type is not known, is refused for that alone. In any other node come what is wrong with its keys, in the order in which they stand, then the keys
--- that have to be there and are not, in the order of the table, and then what does not fit together.
-use Rattle.std.specs.Prelude.{ℕ, ◌+◌, Bool, true, false, not, nat_lt, if◌then◌else◌, List, [], ◌∷◌, ◌++◌, map, length, codes, Option, None, Some, is_some, Result, Ok, Err, bytes_eq}
+-- A node that is no object, or whose type is not known, is refused for that alone. In any other
+-- node come what is wrong with its keys, in the order in which they stand, then the keys that have
+-- to be there and are not, in the order of the table, and then what does not fit together.
+use Rattle.std.specs.Prelude.{ℕ, ◌+◌, Bool, true, false, not, nat_lt, if◌then◌else◌, bytes_eq}
+use Rattle.std.specs.Prelude.{List, [], ◌∷◌, ◌++◌, map, length, codes}
+use Rattle.std.specs.Prelude.{Option, None, Some, is_some, Result, Ok, Err}
 use Rattle.std.specs.List.{flat_map, list_any}
+use Rattle.pv_tree.specs.Parts.{items_at, members_at}
 use Rattle.pv_tree.specs.declared.Step.{Step}
 use Rattle.pv_tree.specs.declared.Step.TheVariants.{Name, Index}
 use Rattle.pv_tree.specs.declared.Tree.{Tree, out-Tree, rec-Tree}
@@ -12,37 +16,43 @@ use Rattle.pv_rules.specs.declared.Literal.{Literal}
 use Rattle.pv_rules.specs.declared.Literal.TheVariants as literal
 use Rattle.pv_rules.specs.declared.SubType.{SubType}
 use Rattle.pv_rules.specs.declared.SubType.TheVariants as sub_type
-use Rattle.pv_schema_values.specs.Levels.{items_at, members_at}
 use Rattle.pv_schema_values.specs.Values.{is_value, text_of, count_of, members_of, sub_type_of}
 use Rattle.pv_schema.specs.Find.{find}
 use Rattle.pv_schema.specs.Table.{Row, Rows, rows, kind_under, built, not_built}
 use Rattle.pv_schema.specs.declared.fault.Code.{Code}
 use Rattle.pv_schema.specs.declared.fault.Code.TheVariants.{Shape, NotYet}
-use Rattle.pv_schema.specs.declared.fault.ShapeCode.TheVariants.{NotObject, MissingKey, UnknownType, UnknownKey, BadValue}
+use Rattle.pv_schema.specs.declared.fault.ShapeCode.TheVariants.{NotObject, MissingKey}
+use Rattle.pv_schema.specs.declared.fault.ShapeCode.TheVariants.{UnknownType, UnknownKey, BadValue}
 use Rattle.pv_schema.specs.declared.fault.Refusal.{Refusal}
 use Rattle.pv_schema.specs.declared.kind.Kind.{Kind}
 use Rattle.pv_schema.specs.declared.kind.Kind.TheVariants as kind
 use Rattle.pv_schema.specs.declared.node_type.NodeType.{NodeType}
 use Rattle.pv_schema.specs.declared.node_type.NodeType.TheVariants as node
 
+-- a refusal at the place itself
 abbrev pub refused : Code → Refusal
 refused code = record { path = []; code = code }
 
--- seen from the whole, where it is one step inside
+-- a refusal seen from the whole, where it is one step inside
 abbrev pub under : Step → Refusal → Refusal
 under step r = record { path = step ∷ r.path; code = r.code }
 
+-- the same of several
 abbrev pub all_under : Step → List Refusal → List Refusal
 all_under step = map (under step)
 
+-- a refusal at a key
 abbrev pub at_key : List ℕ → Code → Refusal
 at_key key code = under (Name key) (refused code)
 
--- the type that a node names, or why it has none
+-- the type that is listed under a name, or why there is none
 abbrev pub listed_as : List ℕ → Option NodeType → Result NodeType Refusal
-listed_as name None = Err (at_key (codes "type") (if list_any (bytes_eq name) not_built then NotYet else Shape UnknownType))
+listed_as name None =
+    Err (at_key (codes "type")
+    (if list_any (bytes_eq name) not_built then NotYet else Shape UnknownType))
 listed_as name (Some n) = Ok n
 
+-- the type that a node names, or why it has none
 abbrev pub type_named : Option (List ℕ) → Result NodeType Refusal
 type_named None = Err (at_key (codes "type") (Shape UnknownType))
 type_named (Some name) = listed_as name (find name built)
@@ -54,49 +64,53 @@ pub record Checked : Type 1 where
 
 -- what is wrong with it as a value of a kind, by what is wrong with it as a schema
 abbrev pub faults_as : Kind → Tree → List Refusal → List Refusal → List Refusal
-faults_as (kind.Value v) t schema schemas = if is_value v t then [] else refused (Shape BadValue) ∷ []
+faults_as (kind.Value v) t schema schemas =
+    if is_value v t then [] else refused (Shape BadValue) ∷ []
 faults_as kind.Schema t schema schemas = schema
 faults_as kind.Schemas t schema schemas = schemas
 faults_as kind.NotBuilt t schema schemas = refused NotYet ∷ []
 
+-- the same, where a value of a kind may stand under the key
 abbrev pub faults_under : Option Kind → Tree → List Refusal → List Refusal → List Refusal
 faults_under None t schema schemas = refused (Shape UnknownKey) ∷ []
 faults_under (Some k) t schema schemas = faults_as k t schema schemas
 
--- the keys that have to be there and are not
+-- whether a key has to be there and is not
 abbrev pub is_absent : {X : Type 0} → List (List ℕ × X) → List ℕ × Row → Bool
 is_absent ms r = if (r.1).required then not (is_some (find r.0 ms)) else false
 
+-- the keys that have to be there and are not
 abbrev pub missing_in : {X : Type 0} → List (List ℕ × X) → Rows → List Refusal
 missing_in ms [] = []
-missing_in ms (r ∷ rs) = if is_absent ms r then at_key r.0 (Shape MissingKey) ∷ missing_in ms rs else missing_in ms rs
+missing_in ms (r ∷ rs) =
+    if is_absent ms r then at_key r.0 (Shape MissingKey) ∷ missing_in ms rs else missing_in ms rs
 
--- how many schemas a list has
+-- how many items there are; none where there is no list
 abbrev pub size_of : Option (List Tree) → ℕ
 size_of None = 0
 size_of (Some ts) = length ts
 
+-- how many items a tree has
 abbrev pub items_size : Tree → ℕ
 items_size t = size_of (items_at (out-Tree t))
 
+-- whether a number, where there is one, is below another
 abbrev pub is_below : Option ℕ → ℕ → Bool
 is_below None n = true
 is_below (Some v) n = nat_lt v n
 
+-- whether a value is of a type
 abbrev pub is_of : SubType → Literal → Bool
-is_of sub_type.Int literal.Null = false
-is_of sub_type.Int (literal.Flag b) = false
 is_of sub_type.Int (literal.Int n) = true
-is_of sub_type.Int (literal.Text t) = false
-is_of sub_type.Text literal.Null = false
-is_of sub_type.Text (literal.Flag b) = false
-is_of sub_type.Text (literal.Int n) = false
 is_of sub_type.Text (literal.Text t) = true
+is_of s l = false
 
+-- whether the values of all members are
 abbrev pub all_are_of : SubType → List EnumMember → Bool
 all_are_of s [] = true
 all_are_of s (m ∷ ms) = if is_of s m.value then all_are_of s ms else false
 
+-- the same, where there are a type and members
 abbrev pub are_of : Option SubType → Option (List EnumMember) → Bool
 are_of None ms = true
 are_of (Some s) None = true
@@ -122,39 +136,53 @@ module _ {X : Type 0} (tree : X → Tree) (inner : X → Checked) where
   abbrev pub misfit : List ℕ → (Tree → Tree → Bool) → Option X → Option X → List Refusal
   misfit key fits None other = []
   misfit key fits (Some x) None = []
-  misfit key fits (Some x) (Some y) = if fits (tree x) (tree y) then [] else at_key key (Shape BadValue) ∷ []
+  misfit key fits (Some x) (Some y) =
+      if fits (tree x) (tree y) then [] else at_key key (Shape BadValue) ∷ []
 
   -- what does not fit together
   abbrev pub misfits : NodeType → List (List ℕ × X) → List Refusal
-  misfits node.Tuple ms = misfit (codes "variadic_item_index") place_fits (find (codes "variadic_item_index") ms) (find (codes "items_schema") ms)
-  misfits node.Enum ms = misfit (codes "sub_type") members_fit (find (codes "sub_type") ms) (find (codes "members") ms)
+  misfits node.Tuple ms =
+      misfit (codes "variadic_item_index") place_fits
+      (find (codes "variadic_item_index") ms)
+      (find (codes "items_schema") ms)
+  misfits node.Enum ms =
+      misfit (codes "sub_type") members_fit (find (codes "sub_type") ms) (find (codes "members") ms)
   misfits _ ms = []
 
+  -- what is wrong with a member of a node of a type
   abbrev pub key_faults : NodeType → List ℕ × X → List Refusal
-  key_faults n m = all_under (Name m.0) (faults_under (kind_under n m.0) (tree m.1) (inner m.1).schema (inner m.1).schemas)
+  key_faults n m =
+      all_under (Name m.0)
+      (faults_under (kind_under n m.0) (tree m.1) (inner m.1).schema (inner m.1).schemas)
 
+  -- what is wrong with a node that names this type, or names none
   abbrev pub node_faults : Result NodeType Refusal → List (List ℕ × X) → List Refusal
   node_faults (Err r) ms = r ∷ []
   node_faults (Ok n) ms = flat_map (key_faults n) ms ++ (missing_in ms (rows n) ++ misfits n ms)
 
+  -- what is wrong with a schema that is an object with these members, or no object
   abbrev pub object_faults : Option (List (List ℕ × X)) → List Refusal
   object_faults None = refused (Shape NotObject) ∷ []
   object_faults (Some ms) = node_faults (type_in tree (find (codes "type") ms)) ms
 
+  -- what is wrong with the items of a list of schemas, from a place on
   abbrev pub item_faults : ℕ → List X → List Refusal
   item_faults i [] = []
   item_faults i (x ∷ xs) = all_under (Index i) (inner x).schema ++ item_faults (i + 1) xs
 
+  -- what is wrong with a list of schemas, or no list
   abbrev pub list_faults : Option (List X) → List Refusal
   list_faults None = refused (Shape BadValue) ∷ []
   list_faults (Some xs) = item_faults 0 xs
 
+-- one level, as a schema and as a list of schemas
 abbrev pub check_step : (X : Type 0) → (X → Tree) → (X → Checked) → Tree-F X → Checked
 check_step X tree inner x = record {
   schema = object_faults tree inner (members_at x);
   schemas = list_faults tree inner (items_at x);
 }
 
+-- all that is wrong with a tree, as a schema and as a list of schemas
 abbrev pub checked : Tree → Checked
 checked = rec-Tree Checked check_step
 
@@ -188,24 +216,21 @@ places_faults i (t ∷ ts) = all_under (Index i) (schema_faults t) ++ places_fau
 abbrev pub rest_faults : NodeType → List (List ℕ × Tree) → List Refusal
 rest_faults n ms = missing_in ms (rows n) ++ misfits (λ t. t) checked n ms
 
--- a node, by its members
+-- what is wrong with a node that names this type, or names none
 abbrev pub members_faults : Result NodeType Refusal → List (List ℕ × Tree) → List Refusal
 members_faults (Err r) ms = r ∷ []
 members_faults (Ok n) ms = flat_map (member_faults n) ms ++ rest_faults n ms
 
--- one level of a schema, and of a list of schemas
-abbrev pub schema_level : Tree-F Tree → List Refusal
-schema_level Tree-F.Null = refused (Shape NotObject) ∷ []
-schema_level (Tree-F.Bool b) = refused (Shape NotObject) ∷ []
-schema_level (Tree-F.Num lexeme) = refused (Shape NotObject) ∷ []
-schema_level (Tree-F.Str text) = refused (Shape NotObject) ∷ []
-schema_level (Tree-F.Array ts) = refused (Shape NotObject) ∷ []
-schema_level (Tree-F.Object ms) = members_faults (type_in (λ t. t) (find (codes "type") ms)) ms
+-- the type that the member `type` names
+abbrev pub type_among : List (List ℕ × Tree) → Result NodeType Refusal
+type_among ms = type_in (λ t. t) (find (codes "type") ms)
 
-abbrev pub schemas_level : Tree-F Tree → List Refusal
-schemas_level Tree-F.Null = refused (Shape BadValue) ∷ []
-schemas_level (Tree-F.Bool b) = refused (Shape BadValue) ∷ []
-schemas_level (Tree-F.Num lexeme) = refused (Shape BadValue) ∷ []
-schemas_level (Tree-F.Str text) = refused (Shape BadValue) ∷ []
-schemas_level (Tree-F.Array ts) = places_faults 0 ts
-schemas_level (Tree-F.Object ms) = refused (Shape BadValue) ∷ []
+-- what is wrong with a schema that is an object with these members, or no object
+abbrev pub schema_in : Option (List (List ℕ × Tree)) → List Refusal
+schema_in None = refused (Shape NotObject) ∷ []
+schema_in (Some ms) = members_faults (type_among ms) ms
+
+-- what is wrong with a list of schemas, or no list
+abbrev pub schemas_in : Option (List Tree) → List Refusal
+schemas_in None = refused (Shape BadValue) ∷ []
+schemas_in (Some ts) = places_faults 0 ts

@@ -13,6 +13,7 @@ use Rattle.pv_schema.specs.declared.fault.Refusal.{Refusal}
 use Rattle.pv_schema.specs.declared.fault.SchemaFault.{SchemaFault}
 use Rattle.pv_schema.specs.declared.fault.SchemaFault.TheVariants as fault
 
+-- a refusal as the fault of a tree that is no schema
 abbrev pub fault_by : List Step → Code → SchemaFault
 fault_by path (code.Shape c) = fault.Shape path c
 fault_by path code.NotYet = fault.NotYet path
@@ -21,20 +22,23 @@ fault_by path code.NotYet = fault.NotYet path
 abbrev pub counted : Node → Result Node SchemaFault
 counted n = if nat_le (node_count n) 100000 then Ok n else Err (fault.TooManyNodes (node_count n))
 
+-- the first refusal, or a schema of few enough nodes where there is none
 abbrev pub schema_by : Option Refusal → Node → Result Node SchemaFault
 schema_by (Some r) n = Err (fault_by r.path r.code)
 schema_by None n = counted n
 
+-- the schema that a tree is, or why it is none
 unfoldable pub schema_of : Tree → Result Node SchemaFault
 schema_of t = schema_by (first (schema_faults t)) (node_of t)
 
--- an answer is the one that is wanted; want of memory may come in its place
+-- a fault is the one that is wanted; want of memory may come in its place
 abbrev pub FaultIs : SchemaFault → Result Node SchemaFault → Type 0
 FaultIs (fault.Shape path c) wanted = wanted ≡ Err (fault.Shape path c)
 FaultIs (fault.NotYet path) wanted = wanted ≡ Err (fault.NotYet path)
 FaultIs (fault.TooManyNodes count) wanted = wanted ≡ Err (fault.TooManyNodes count)
 FaultIs fault.Memory wanted = Unit {0}
 
+-- an answer is the one that is wanted; want of memory may come in its place
 abbrev pub Reads : Result Node SchemaFault → Result Node SchemaFault → Type 0
 Reads (Ok n) wanted = wanted ≡ Ok n
 Reads (Err e) wanted = FaultIs e wanted

@@ -1,4 +1,5 @@
--- The types of nodes and their keys, as data: each key, what may stand under it, and whether it has to be there.
+-- The types of nodes and their keys, as data: each key, what may stand under it, and whether it has
+-- to be there.
 use Rattle.std.specs.Prelude.{ℕ, Bool, true, false, List, [], ◌∷◌, ◌++◌, codes, Option, None, Some}
 use Rattle.pv_schema.specs.Find.{find}
 use Rattle.pv_schema.specs.declared.kind.Kind.{Kind}
@@ -7,16 +8,20 @@ use Rattle.pv_schema_values.specs.declared.ValueKind.TheVariants as value
 use Rattle.pv_schema.specs.declared.node_type.NodeType.{NodeType}
 use Rattle.pv_schema.specs.declared.node_type.NodeType.TheVariants as node
 
+-- what may stand under a key, and whether the key has to be there
 pub record Row : Type 0 where
   pub kind : Kind
   pub required : Bool
 
+-- keys with their rows
 abbrev pub Rows : Type 0
 Rows = List (List ℕ × Row)
 
+-- a key that may be there
 abbrev pub may : Kind → Row
 may k = record { kind = k; required = false }
 
+-- a key that has to be there
 abbrev pub must : Kind → Row
 must k = record { kind = k; required = true }
 
@@ -32,10 +37,18 @@ common =
 
 -- the bounds of a length
 abbrev pub lengths : Rows
-lengths = (codes "min_length", may (kind.Value value.Count)) ∷ (codes "max_length", may (kind.Value value.Count)) ∷ []
+lengths =
+    (codes "min_length", may (kind.Value value.Count))
+    ∷ (codes "max_length", may (kind.Value value.Count))
+    ∷ []
 
+-- the keys of a list, a set or a frozenset
 abbrev pub sequence : Rows
-sequence = (codes "items_schema", may kind.Schema) ∷ lengths ++ (codes "fail_fast", may (kind.Value value.False)) ∷ []
+sequence =
+    (codes "items_schema", may kind.Schema)
+    ∷ lengths
+    ++ (codes "fail_fast", may (kind.Value value.False))
+    ∷ []
 
 -- the keys of a type besides
 abbrev pub own : NodeType → Rows
@@ -57,7 +70,10 @@ own node.Str =
     ∷ []
 own node.Bytes = lengths
 own node.Uuid = (codes "version", may (kind.Value value.Version)) ∷ []
-own node.Url = (codes "max_length", may (kind.Value value.Count)) ∷ (codes "allowed_schemes", may (kind.Value value.Texts)) ∷ []
+own node.Url =
+    (codes "max_length", may (kind.Value value.Count))
+    ∷ (codes "allowed_schemes", may (kind.Value value.Texts))
+    ∷ []
 own node.Literal = (codes "expected", must (kind.Value value.Literals)) ∷ []
 own node.Enum =
     (codes "cls", must (kind.Value value.Text))
@@ -73,12 +89,15 @@ own node.Tuple =
     ∷ lengths
     ++ (codes "fail_fast", may (kind.Value value.False))
     ∷ []
-own node.Dict = (codes "keys_schema", may kind.Schema) ∷ (codes "values_schema", may kind.Schema) ∷ lengths
+own node.Dict =
+    (codes "keys_schema", may kind.Schema) ∷ (codes "values_schema", may kind.Schema) ∷ lengths
 own node.Nullable = (codes "schema", must kind.Schema) ∷ []
 
+-- all keys of a type
 abbrev pub rows : NodeType → Rows
 rows n = common ++ own n
 
+-- what may stand under a key, by its row
 abbrev pub kind_of : Option Row → Option Kind
 kind_of None = None
 kind_of (Some r) = Some r.kind
@@ -87,7 +106,7 @@ kind_of (Some r) = Some r.kind
 unfoldable pub kind_under : NodeType → List ℕ → Option Kind
 kind_under n key = kind_of (find key (rows n))
 
--- the type that a text names, and the names of those that are not built
+-- the types that are built, by their names
 abbrev pub built : List (List ℕ × NodeType)
 built =
     (codes "any", node.Any)
@@ -108,6 +127,7 @@ built =
     ∷ (codes "nullable", node.Nullable)
     ∷ []
 
+-- the names of the types that are not built
 abbrev pub not_built : List (List ℕ)
 not_built =
     codes "default"

@@ -1,9 +1,8 @@
 //! What is wrong with a schema, up to the first refusal.
 
-ghost use Rattle.std.specs.Prelude.{◌≡◌, ◌≤◌, ◌+◌, ℕ, length, codes};
+ghost use Rattle.std.specs.Prelude.{◌≡◌};
 ghost use Rattle.std.specs.List.{flat_map};
 ghost use Rattle.pv_tree.specs.declared.Step.TheVariants.{Index};
-ghost use Rattle.pv_schema.specs.Find as found;
 ghost use Rattle.pv_schema.specs.Checking as spec;
 ghost use Rattle.pv_schema.specs.Answers.{Answers};
 
@@ -17,7 +16,7 @@ use crate::refusing::{refused, under_item, under_key};
 use crate::table::{common, own};
 use pv_schema_values::{ValueKind, is_value};
 use pv_text::Text;
-use pv_tree::Tree;
+use pv_tree::{Members, Tree};
 use std::alloc::Global;
 
 /// A value that holds no schema.
@@ -77,26 +76,23 @@ fn check_member(
 
 /// The keys of a node in the order in which they stand.
 #[cycle(check)]
-fn check_keys(
-    alloc: Global,
-    node_type: NodeType,
-    members: &[(Text, Tree)],
-) -> Result<(), CheckFault>
-    ensures { Answers result (flat_map (spec.member_faults node_type) members.now) }
+fn check_keys(alloc: Global, node_type: NodeType, members: &Members) -> Result<(), CheckFault>
+    ensures { Answers result (flat_map (spec.member_faults node_type) members.now.members) }
 {
-    for (name, value) in members {
+    for (name, value) in members.as_slice() {
         check_member(alloc, node_type, name, value)?;
     }
     Ok(())
 }
 
 #[cycle(check)]
-fn check_members(alloc: Global, members: &[(Text, Tree)]) -> Result<(), CheckFault>
-    ensures { Answers result (spec.members_faults (spec.type_in (λ t. t) (found.find (codes "type") members.now)) members.now) }
+fn check_members(alloc: Global, members: &Members) -> Result<(), CheckFault>
+    ensures { Answers result
+        (spec.members_faults (spec.type_among members.now.members) members.now.members) }
 {
-    let node_type = type_of(alloc, members)?;
+    let node_type = type_of(alloc, members.as_slice())?;
     check_keys(alloc, node_type, members)?;
-    check_rest(alloc, node_type, members)
+    check_rest(alloc, node_type, members.as_slice())
 }
 
 #[cycle(check)]
@@ -126,12 +122,10 @@ fn check_schemas(alloc: Global, tree: &Tree) -> Result<(), CheckFault>
     ensures { Answers result (spec.schemas_faults tree.now) }
 {
     match tree {
-        Tree::Null => Err(refused(alloc, Code::Shape(ShapeCode::BadValue))),
-        Tree::Bool(_) => Err(refused(alloc, Code::Shape(ShapeCode::BadValue))),
-        Tree::Num(_) => Err(refused(alloc, Code::Shape(ShapeCode::BadValue))),
-        Tree::Str(_) => Err(refused(alloc, Code::Shape(ShapeCode::BadValue))),
         Tree::Array(items) => check_items(alloc, items.as_slice()),
-        Tree::Object(_) => Err(refused(alloc, Code::Shape(ShapeCode::BadValue))),
+        Tree::Null | Tree::Bool(_) | Tree::Num(_) | Tree::Str(_) | Tree::Object(_) => {
+            Err(refused(alloc, Code::Shape(ShapeCode::BadValue)))
+        }
     }
 }
 
@@ -142,11 +136,9 @@ pub(crate) fn check_schema(alloc: Global, tree: &Tree) -> Result<(), CheckFault>
     ensures { Answers result (spec.schema_faults tree.now) }
 {
     match tree {
-        Tree::Null => Err(refused(alloc, Code::Shape(ShapeCode::NotObject))),
-        Tree::Bool(_) => Err(refused(alloc, Code::Shape(ShapeCode::NotObject))),
-        Tree::Num(_) => Err(refused(alloc, Code::Shape(ShapeCode::NotObject))),
-        Tree::Str(_) => Err(refused(alloc, Code::Shape(ShapeCode::NotObject))),
-        Tree::Array(_) => Err(refused(alloc, Code::Shape(ShapeCode::NotObject))),
-        Tree::Object(members) => check_members(alloc, members.as_slice()),
+        Tree::Object(members) => check_members(alloc, members),
+        Tree::Null | Tree::Bool(_) | Tree::Num(_) | Tree::Str(_) | Tree::Array(_) => {
+            Err(refused(alloc, Code::Shape(ShapeCode::NotObject)))
+        }
     }
 }

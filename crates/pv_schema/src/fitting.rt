@@ -18,7 +18,8 @@ use pv_tree::Tree;
 use std::alloc::Global;
 
 fn is_absent(row: &Row, members: &[(Text, Tree)]) -> bool
-    ensures { result ≡ spec.is_absent members.now (row.now.key.now, record { kind = row.now.kind; required = row.now.required }) }
+    ensures { result ≡ spec.is_absent members.now
+        (row.now.key.now, record { kind = row.now.kind; required = row.now.required }) }
 {
     row.required && find(members, row.key).is_none()
 }
@@ -42,13 +43,9 @@ pub(crate) fn check_missing(
 fn size_of(tree: &Tree) -> usize
     ensures { result ≡ spec.items_size tree.now }
 {
-    match tree {
-        Tree::Null => 0,
-        Tree::Bool(_) => 0,
-        Tree::Num(_) => 0,
-        Tree::Str(_) => 0,
-        Tree::Array(items) => items.len(),
-        Tree::Object(_) => 0,
+    match tree.as_array() {
+        Some(items) => items.len(),
+        None => 0,
     }
 }
 
@@ -67,14 +64,10 @@ fn is_of(sub_type: SubType, value: &Literal) -> bool
     ensures { result ≡ spec.is_of sub_type value.now }
 {
     match (sub_type, value) {
-        (SubType::Int, Literal::Null) => false,
-        (SubType::Int, Literal::Flag(_)) => false,
         (SubType::Int, Literal::Int(_)) => true,
-        (SubType::Int, Literal::Text(_)) => false,
-        (SubType::Text, Literal::Null) => false,
-        (SubType::Text, Literal::Flag(_)) => false,
-        (SubType::Text, Literal::Int(_)) => false,
+        (SubType::Int, Literal::Null | Literal::Flag(_) | Literal::Text(_)) => false,
         (SubType::Text, Literal::Text(_)) => true,
+        (SubType::Text, Literal::Null | Literal::Flag(_) | Literal::Int(_)) => false,
     }
 }
 
@@ -148,21 +141,21 @@ pub(crate) fn check_fit(
     ensures { Answers result (spec.misfits (λ t. t) spec.checked node_type members.now) }
 {
     match node_type {
-        NodeType::Any => Ok(()),
-        NodeType::None => Ok(()),
-        NodeType::Bool => Ok(()),
-        NodeType::Int => Ok(()),
-        NodeType::Str => Ok(()),
-        NodeType::Bytes => Ok(()),
-        NodeType::Uuid => Ok(()),
-        NodeType::Url => Ok(()),
-        NodeType::Literal => Ok(()),
         NodeType::Enum => check_sub_type(alloc, members),
-        NodeType::List => Ok(()),
-        NodeType::Set => Ok(()),
-        NodeType::Frozen => Ok(()),
         NodeType::Tuple => check_place(alloc, members),
-        NodeType::Dict => Ok(()),
-        NodeType::Nullable => Ok(()),
+        NodeType::Any
+        | NodeType::None
+        | NodeType::Bool
+        | NodeType::Int
+        | NodeType::Str
+        | NodeType::Bytes
+        | NodeType::Uuid
+        | NodeType::Url
+        | NodeType::Literal
+        | NodeType::List
+        | NodeType::Set
+        | NodeType::Frozen
+        | NodeType::Dict
+        | NodeType::Nullable => Ok(()),
     }
 }

@@ -1,4 +1,5 @@
 ghost use Rattle.std.specs.Prelude.{IfOk};
+ghost use Rattle.pv_schema.specs.Reading as spec;
 ghost use Rattle.pv_schema.specs.Reading.{Reads, schema_of};
 ghost use Rattle.pv_schema.specs.Allowed.{AreAllowed};
 
@@ -6,7 +7,7 @@ use crate::check_fault::CheckFault;
 use crate::checking::check_schema;
 use crate::fault::{Code, SchemaFault};
 use crate::making::make_node;
-use pv_node::{MAX_NODES, Schema, count_nodes};
+use pv_node::{MAX_NODES, Node, Schema, count_nodes};
 use pv_text::Memory;
 use pv_tree::Tree;
 use std::alloc::Global;
@@ -22,6 +23,18 @@ impl From<Memory> for SchemaFault {
     }
 }
 
+/// A schema with this root, where it has few enough nodes.
+fn counted(alloc: Global, root: Node) -> Result<Schema, SchemaFault>
+    ensures { Reads result (spec.counted root) }
+{
+    let count = count_nodes(&root)?;
+    if count <= MAX_NODES {
+        Ok(Schema::new(alloc, root)?)
+    } else {
+        Err(SchemaFault::TooManyNodes { count })
+    }
+}
+
 /// The schema that a tree is, or the first of all that is wrong with it. Docs: "Schemas" in
 /// docs/SCHEMAS.md has the table of keys and the order of refusals.
 #[tactic(auto, unfolding(crate::specs::Reading::schema_of))]
@@ -32,12 +45,7 @@ pub fn read_schema(alloc: Global, t: &Tree) -> Result<Schema, SchemaFault>
     match check_schema(alloc, t) {
         Ok(()) => {
             let root = make_node(alloc, t)?;
-            let count = count_nodes(&root)?;
-            if count <= MAX_NODES {
-                Ok(Schema::new(alloc, root)?)
-            } else {
-                Err(SchemaFault::TooManyNodes { count })
-            }
+            counted(alloc, root)
         }
         Err(CheckFault::Refused(refusal)) => match refusal.code {
             Code::Shape(code) => Err(SchemaFault::Shape {

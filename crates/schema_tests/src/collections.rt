@@ -1,5 +1,5 @@
 use crate::fixtures::{shown, text, tree};
-use pv_collect::Gather;
+use pv_collect::GatherPairs;
 use pv_fault::{Grade, Outcome};
 use pv_rules::{Collection, GatherRule};
 use pv_tree::{Value, Values};
@@ -28,7 +28,7 @@ fn good(value: Value) -> Outcome {
 fn a_key_that_is_not_hashable_is_an_error(rt: HostRuntime) {
     let alloc = rt.alloc();
     let key = good(Value::List(Values::new(alloc)));
-    let gather = Gather::new(alloc, &DICT);
+    let gather = GatherPairs::new(alloc, &DICT);
     let gather = gather
         .pair(&text(&rt, alloc, "a"), key, good(Value::Int(1)))
         .expect(&rt, "memory");

@@ -1,4 +1,5 @@
-//! Texts, trees and schemas, written as text, and outcomes as text.
+//! Texts, trees and schemas, written as text, and outcomes as text. Tables are texts too, a row a
+//! line: a proof does not look into them.
 
 use pv_fault::{Grade, Outcome, write_faults};
 use pv_json::read;
@@ -12,6 +13,11 @@ use std::process::Abort;
 
 pub(crate) fn text(rt: &impl Abort, alloc: Global, s: &str) -> Text {
     Text::from_str(alloc, s).expect(rt, "memory")
+}
+
+/// What stands before and behind the first space of a row.
+pub(crate) fn cut<'a>(rt: &impl Abort, row: &'a str) -> (&'a str, &'a str) {
+    row.split_once(' ').expect(rt, "a space")
 }
 
 /// The tree of a JSON document.

@@ -1,24 +1,15 @@
-use crate::fixtures::schema;
+use crate::fixtures::{cut, schema};
 use pv_plan::{Op, Plan, build};
 use pv_rules::Collection;
 use std::alloc::Global;
 use std::process::Abort;
 
-/// Schemas, how many nodes each has, and the records of its plan: what each does, its children and
-/// whether it is strict.
-const PLANS: [(&str, u64, &str); 3] = [
-    (
-        r#"{"type":"tuple","items_schema":[{"type":"list","items_schema":{"type":"any"}},{"type":"dict","values_schema":{"type":"nullable","schema":{"type":"str","pattern":"a|b"}}},{"type":"list","strict":true}]}"#,
-        7,
-        "tuple 1 3 6\nlist 2\nscalar\ndict 7 4\nnullable 5\nscalar\nlist 7 strict\nscalar\n",
-    ),
-    (
-        r#"{"type":"dict","keys_schema":{"type":"any"},"values_schema":{"type":"any"}}"#,
-        3,
-        "dict 1 2\nscalar\nscalar\nscalar\n",
-    ),
-    (r#"{"type":"any"}"#, 1, "scalar\nscalar\n"),
-];
+/// How many nodes a schema has, the schema, and the records of its plan: what each does, its
+/// children and whether it is strict.
+const PLANS: &str =
+    r#"7 {"type":"tuple","items_schema":[{"type":"list","items_schema":{"type":"any"}},{"type":"dict","values_schema":{"type":"nullable","schema":{"type":"str","pattern":"a|b"}}},{"type":"list","strict":true}]} tuple 1 3 6;list 2;scalar;dict 7 4;nullable 5;scalar;list 7 strict;scalar;
+3 {"type":"dict","keys_schema":{"type":"any"},"values_schema":{"type":"any"}} dict 1 2;scalar;scalar;scalar;
+1 {"type":"any"} scalar;scalar;"#;
 
 fn name_of(op: &Op) -> &'static str {
     match op {
@@ -34,7 +25,7 @@ fn name_of(op: &Op) -> &'static str {
     }
 }
 
-/// The records of a plan, one a line.
+/// The records of a plan, a semicolon behind each.
 fn written(rt: &impl Abort, alloc: Global, plan: &Plan) -> String {
     let mut lines = String::new(alloc);
     for record in plan.as_slice() {
@@ -45,7 +36,7 @@ fn written(rt: &impl Abort, alloc: Global, plan: &Plan) -> String {
         if record.strict {
             lines.push_str(" strict").expect(rt, "memory");
         }
-        lines.push_str("\n").expect(rt, "memory");
+        lines.push_str(";").expect(rt, "memory");
     }
     lines
 }
@@ -60,12 +51,14 @@ fn plan(rt: &impl Abort, alloc: Global, json: &str) -> Plan {
 #[test]
 fn records_are_numbered_in_preorder(rt: HostRuntime) {
     let alloc = rt.alloc();
-    for (json, nodes, want) in PLANS {
+    for row in PLANS.lines() {
+        let (nodes, rest) = cut(&rt, row);
+        let (json, want) = cut(&rt, rest);
         let plan = plan(&rt, alloc, json);
-        let lines = written(&rt, alloc, &plan);
-        assert_eq!(rt; lines.as_str(), want);
+        assert_eq!(rt; written(&rt, alloc, &plan).as_str(), want);
+        let count = format!(in alloc; "{}", plan.nodes()).expect(&rt, "memory");
+        assert_eq!(rt; count.as_str(), nodes);
         assert_eq!(rt; plan.root(), 0);
-        assert_eq!(rt; plan.nodes(), nodes);
         assert!(rt; want.starts_with(name_of(&plan.slot(0).op)));
     }
 }

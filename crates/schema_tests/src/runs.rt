@@ -106,32 +106,37 @@ fn files_have_four_mebibytes_at_most(rt: HostRuntime) {
     assert_eq!(rt; larger.err.taken(), b"too large: \"D\"\n".as_slice());
 }
 
-/// The status and the line of each failing call: a pick, two reads and one at the end for the
-/// schema, and the same for the document, whose last one is not needed.
-const READS: [(u64, u8, &str); 9] = [
-    (0, 4, "read failed: \"S\"\n"),
-    (1, 4, "read failed: \"S\"\n"),
-    (2, 4, "read failed: \"S\"\n"),
-    (3, 4, "read failed: \"S\"\n"),
-    (4, 4, "read failed: \"D\"\n"),
-    (5, 4, "read failed: \"D\"\n"),
-    (6, 4, "read failed: \"D\"\n"),
-    (7, 0, ""),
-    (8, 0, ""),
-];
+/// The status and the line where the first call of the shelf fails, the second one, and so on: a
+/// pick, two reads and one at the end for the schema, and the same for the document, whose last one
+/// is not needed.
+const READS: &str = r#"4:read failed: "S"
+4:read failed: "S"
+4:read failed: "S"
+4:read failed: "S"
+4:read failed: "D"
+4:read failed: "D"
+4:read failed: "D"
+0:
+0:"#;
+
+/// The status of a run and its line on standard error.
+fn told(rt: &impl Abort, alloc: Global, left: &Left) -> String {
+    let status = left.status.code();
+    let line = str::from_utf8(left.err.taken()).ok().expect(rt, "UTF-8");
+    format!(in alloc; "{status}:{}", line.trim_end()).expect(rt, "memory")
+}
 
 #[test]
 fn each_failing_read_has_its_answer(rt: HostRuntime) {
     let alloc = rt.alloc();
-    for (call, status, line) in READS {
+    for (call, want) in READS.lines().enumerate() {
         let setting = Setting {
             piece: 7,
-            failing_read: Some(call),
+            failing_read: Some(call as u64),
             ..AMPLE
         };
         let left = left_by(&rt, alloc, &setting, b" 12345 ");
-        assert_eq!(rt; left.status.code(), status, "{call}");
-        assert_eq!(rt; left.err.taken(), line.as_bytes(), "{call}");
+        assert_eq!(rt; told(&rt, alloc, &left).as_str(), want, "{call}");
     }
 }
 

@@ -1,4 +1,4 @@
-use crate::fixtures::tree;
+use crate::fixtures::{cut, tree};
 use ValueKind::{
     Anything, AtLeastOne, Count, Engine, False, Flag, Int, Literals, Members, SubType, Text, Texts,
     Version,
@@ -14,64 +14,70 @@ const KINDS: [ValueKind; 13] = [
 ];
 
 /// JSON, and the kinds of values that it may stand for.
-const VALUES: [(&str, &[ValueKind]); 44] = [
-    ("null", &[Anything]),
-    ("{}", &[Anything]),
-    ("true", &[Anything, Flag]),
-    ("false", &[Anything, Flag, False]),
-    ("-1", &[Anything, Int]),
-    ("-0", &[Anything, Count, Int]),
-    ("0", &[Anything, Count, Int]),
-    ("1", &[Anything, Count, Int, AtLeastOne, Version]),
-    ("8", &[Anything, Count, Int, AtLeastOne, Version]),
-    ("9", &[Anything, Count, Int, AtLeastOne]),
-    ("4294967295", &[Anything, Count, Int, AtLeastOne]),
-    ("4294967296", &[Anything, Int, AtLeastOne]),
-    ("18446744073709551617", &[Anything, Int, AtLeastOne]),
-    (
-        "170141183460469231731687303715884105727",
-        &[Anything, Int, AtLeastOne],
-    ),
-    ("170141183460469231731687303715884105728", &[Anything]),
-    ("-170141183460469231731687303715884105728", &[Anything, Int]),
-    ("1.0", &[Anything]),
-    ("1e0", &[Anything]),
-    (r#""""#, &[Anything, Text]),
-    (r#""int""#, &[Anything, Text, SubType]),
-    (r#""str""#, &[Anything, Text, SubType]),
-    (r#""float""#, &[Anything, Text]),
-    (r#""Int""#, &[Anything, Text]),
-    (r#""rust-regex""#, &[Anything, Text, Engine]),
-    (r#""python-re""#, &[Anything, Text]),
-    ("[]", &[Anything]),
-    (r#"["a","a"]"#, &[Anything, Texts, Literals]),
-    (r#"[null,true,1,"a"]"#, &[Anything, Literals]),
-    (r#"["a",0.5]"#, &[Anything]),
-    ("[{}]", &[Anything]),
-    ("[1,{}]", &[Anything]),
-    (r#"[["A",1],["B",2]]"#, &[Anything, Members]),
-    (r#"[["A",1],["B","1"]]"#, &[Anything, Members]),
-    (r#"[["A","B"],["B","A"]]"#, &[Anything, Members]),
-    (r#"[["A",1],["A",2]]"#, &[Anything]),
-    (r#"[["A",0],["B",-0]]"#, &[Anything]),
-    (r#"[["A","x"],["B","x"]]"#, &[Anything]),
-    (r#"[["A",true]]"#, &[Anything]),
-    (r#"[["A",null]]"#, &[Anything]),
-    (r#"[["A",2.0]]"#, &[Anything]),
-    ("[[1,1]]", &[Anything]),
-    ("[[]]", &[Anything]),
-    (r#"[["A"]]"#, &[Anything]),
-    (r#"[["A",1,1]]"#, &[Anything]),
-];
+const VALUES: &str = r#"null Anything
+{} Anything
+true Anything Flag
+false Anything Flag False
+-1 Anything Int
+-0 Anything Count Int
+0 Anything Count Int
+1 Anything Count Int AtLeastOne Version
+8 Anything Count Int AtLeastOne Version
+9 Anything Count Int AtLeastOne
+4294967295 Anything Count Int AtLeastOne
+4294967296 Anything Int AtLeastOne
+18446744073709551617 Anything Int AtLeastOne
+170141183460469231731687303715884105727 Anything Int AtLeastOne
+170141183460469231731687303715884105728 Anything
+-170141183460469231731687303715884105728 Anything Int
+1.0 Anything
+1e0 Anything
+"" Anything Text
+"int" Anything Text SubType
+"str" Anything Text SubType
+"float" Anything Text
+"Int" Anything Text
+"rust-regex" Anything Text Engine
+"python-re" Anything Text
+[] Anything
+["a","a"] Anything Texts Literals
+[null,true,1,"a"] Anything Literals
+["a",0.5] Anything
+[{}] Anything
+[1,{}] Anything
+[["A",1],["B",2]] Anything Members
+[["A",1],["B","1"]] Anything Members
+[["A","B"],["B","A"]] Anything Members
+[["A",1],["A",2]] Anything
+[["A",0],["B",-0]] Anything
+[["A","x"],["B","x"]] Anything
+[["A",true]] Anything
+[["A",null]] Anything
+[["A",2.0]] Anything
+[[1,1]] Anything
+[[]] Anything
+[["A"]] Anything
+[["A",1,1]] Anything"#;
+
+fn has_word(words: &str, name: &str) -> bool {
+    for word in words.split(' ') {
+        if word == name {
+            return true;
+        }
+    }
+    false
+}
 
 #[test]
 fn json_stands_for_values_of_its_kinds(rt: HostRuntime) {
     let alloc = rt.alloc();
-    for (json, kinds) in VALUES {
+    for row in VALUES.lines() {
+        let (json, kinds) = cut(&rt, row);
         let tree = tree(&rt, alloc, json.as_bytes());
         for kind in KINDS {
             let stands = is_value(alloc, kind, &tree).expect(&rt, "memory");
-            assert_eq!(rt; stands, kinds.contains(&kind), "{json} {kind:?}");
+            let name = format!(in alloc; "{kind:?}").expect(&rt, "memory");
+            assert!(rt; stands == has_word(kinds, name.as_str()), "{row} {kind:?}");
         }
     }
 }

@@ -1,7 +1,7 @@
-use Rattle.std.proofs.Common.{◌≡◌, ◌∷◌, ◌∙◌, length, get_or, sym, arith}
+use Rattle.std.proofs.Common.{◌≡◌, ◌∷◌, ◌∙◌, length, get_or, refl, sym, arith}
 use Rattle.pv_json_grammar.specs.Reading.{skip}
 use Rattle.pv_json_grammar.specs.Values as spec
-use Rattle.pv_json.proofs.Items.{members_more, members_last, front_rest}
+use Rattle.pv_json.proofs.Items.{several_more, several_last, front_rest}
 use Rattle.pv_json.proofs.values.+value.Goals as goal
 
 pub members-loop-i-preserved : goal.members-loop-i-preserved
@@ -9,7 +9,7 @@ members-loop-i-preserved t c =
     let front : skip c.in_ok-member.more ≡ get_or c.as_slice.result.now 0 0 ∷ c.after-rest-in-loop-i.result =
     front_rest c.as_slice.result.now c.skip-more.result c.after-rest-in-loop-i.result c.in_ok-member.more
     c.as_slice.ensures c.skip-more.ensures c.in-len1-up.len_at_least c.after-rest-in-loop-i.ensures in
-    sym (members_more (spec.value c.args.nesting) (length c.args.s.now) c.loop-i.i c.loop-i.all.items c.push.new.self.items c.loop-i.rest c.in_ok-member.more
+    sym (several_more (spec.member (spec.value c.args.nesting)) 125 spec.object_tree (length c.args.s.now) c.loop-i.i c.loop-i.all.items c.push.new.self.items c.loop-i.rest c.in_ok-member.more
     c.after-rest-in-loop-i.result c.in_ok-member.member _ (omega arith) c.in_ok-member.ensures front c.if-b-ne44.false c.in_ok-push.ensures.items)
     ∙ c.loop-i.invariant
 
@@ -19,5 +19,5 @@ members-returns-then-b-eq125 t c =
     front_rest c.as_slice.result.now c.skip-more.result c.after.result c.in_ok-member.more
     c.as_slice.ensures c.skip-more.ensures c.in-len1-up.len_at_least c.after.ensures in
     sym c.loop-i.invariant
-    ∙ members_last (spec.value c.args.nesting) (length c.args.s.now) c.loop-i.i c.loop-i.all.items c.push.new.self.items c.in_ok-object.field-0 c.loop-i.rest
-    c.in_ok-member.more c.after.result c.in_ok-member.member _ (omega arith) c.in_ok-member.ensures front c.if-b-eq125.true c.in_ok-push.ensures.items c.in_ok-object.ensures
+    ∙ several_last (spec.member (spec.value c.args.nesting)) 125 spec.object_tree (length c.args.s.now) c.loop-i.i c.loop-i.all.items c.push.new.self.items c.in_ok-object.field-0 c.loop-i.rest
+    c.in_ok-member.more c.after.result c.in_ok-member.member _ refl (omega arith) c.in_ok-member.ensures front c.if-b-eq125.true c.in_ok-push.ensures.items c.in_ok-object.ensures

@@ -1,5 +1,4 @@
 use Rattle.std.proofs.Common.{◌≡◌, ◌+◌, ◌-◌, ◌*◌, length, []}
-use Rattle.pv_tree.specs.Merging.{put_all}
 use Rattle.pv_json_grammar.specs.Values as spec
 use Rattle.pv_json.proofs.values.+value.Given as goal
 
@@ -25,4 +24,4 @@ abbrev pub invariant-items-loop-i : goal.invariant-items-loop-i
 invariant-items-loop-i l = spec.items (spec.value l.nesting) (length l.s - l.i) l.all.items l.rest ≡ spec.items (spec.value l.nesting) (length l.s) [] l.s
 
 abbrev pub invariant-members-loop-i : goal.invariant-members-loop-i
-invariant-members-loop-i l = spec.members (spec.value l.nesting) (length l.s - l.i) (put_all [] l.all.items) l.rest ≡ spec.members (spec.value l.nesting) (length l.s) [] l.s
+invariant-members-loop-i l = spec.members (spec.value l.nesting) (length l.s - l.i) l.all.items l.rest ≡ spec.members (spec.value l.nesting) (length l.s) [] l.s

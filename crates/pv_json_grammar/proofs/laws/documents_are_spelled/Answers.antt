@@ -1,5 +1,5 @@
-use Rattle.pv_json_grammar.proofs.ValueSound.{document_sound}
+use Rattle.pv_json_grammar.proofs.Readings.{reading_sound}
 use Rattle.pv_json_grammar.proofs.laws.documents_are_spelled.Goals as goal
 
 pub returns : goal.returns
-returns c = document_sound
+returns c = reading_sound

@@ -3,10 +3,10 @@ use Rattle.pv_schema.proofs.making.+make.Goals as goal
 
 pub make_object-returns-in_ok-make_body-in-Some : goal.make_object-returns-in_ok-make_body-in-Some
 make_object-returns-in_ok-make_body-in-Some t c =
-    node_made _ c.in-Some.node_type c.args.members.now _ _ c.in-Some.ensures c.flag_at.ensures c.in_ok-make_body-in-Some.ensures
+    node_made c.in-Some.node_type _ _ _ _ c.as_slice-keys.ensures.value c.in-Some.ensures c.flag_at.ensures c.in_ok-make_body-in-Some.ensures
 
 pub make_node-returns-in_ok-node-in-Object : goal.make_node-returns-in_ok-node-in-Object
-make_node-returns-in_ok-node-in-Object t c = object_made _ _ c.in-Object.members _ c.in-Object.is c.as_slice.ensures c.in_ok-node-in-Object.ensures
+make_node-returns-in_ok-node-in-Object t c = object_made _ _ c.in-Object.members c.in-Object.is c.in_ok-node-in-Object.ensures
 
 pub make_nodes-returns-in_ok-nodes-in-Array : goal.make_nodes-returns-in_ok-nodes-in-Array
 make_nodes-returns-in_ok-nodes-in-Array t c = array_made _ _ c.in-Array.items _ c.in-Array.is c.as_slice.ensures c.in_ok-nodes-in-Array.ensures

@@ -4,10 +4,9 @@ use Rattle.std.specs.Prelude.{Result, nat_le, nat_lt, ◌&&◌, ◌||◌, encode
 use Rattle.pv_number.specs.Scanning.{◌>>=◌, begins, digits, some_digits, minus_len, sign_len, whole_len, fraction_len, exponent_len, number_len}
 use Rattle.pv_tree.specs.declared.Tree.{Tree}
 use Rattle.pv_tree.specs.declared.Tree.TheVariants as tree
-use Rattle.pv_tree.specs.Merging.{put}
 use Rattle.pv_json_grammar.specs.Reading.{Reads, byte_in, past, after, is_blank, skip, number}
 use Rattle.pv_json_grammar.specs.Strings.{raw, raw_third, second_least, second_most, hex_value, hex, two, first_code, low_code, is_high, joined, unicode, escaped, escape, plain, goes_on, after_plain, turn, string_from, string}
-use Rattle.pv_json_grammar.specs.Values.{after_item, items, array_from, array, member, after_member, members, object_from, object, word, value_by, value, document}
+use Rattle.pv_json_grammar.specs.Values.{behind, several, group, object_tree, array, member, object, word, value_by, value, document}
 
 -- a result whose size, and at a fault what is left, is at most n
 abbrev pub Within : {A : Type 0} → (A → ℕ) → ℕ → Result A ℕ → Type 0
@@ -162,25 +161,28 @@ string_from_in zero n out bs l = l
 string_from_in (suc k) n out bs l = bind_in turn_left left_of n (turn out bs) _ (turn_in n out bs l) (λ x m.
     cond_in left_of n x.0 (Ok (x.1, x.2)) (string_from k x.1 x.2) m (string_from_in k n x.1 x.2 m))
 
+module _ {A : Type 0} (n : ℕ) (inner : List ℕ → Reads A) (close : ℕ) (finish : List A → Tree)
+    (inner_in : (bs : List ℕ) → length bs ≤ n → Keeps n (inner bs)) where
+  behind_in : (more : List A → List ℕ → Reads Tree) → ((all : List A) (bs : List ℕ) → length bs ≤ n → Keeps n (more all bs))
+      → (all : List A) (bs : List ℕ) → length bs ≤ n → Keeps n (behind inner close finish more all bs)
+  behind_in more more_in all [] l = omega arith
+  behind_in more more_in all (b ∷ bs) l = cond_in left_of n (b == 44) (more all bs) _ (more_in all bs (omega arith))
+      (cond_in left_of n (b == close) (Ok (finish all, bs)) (Err (length bs + 1)) (omega arith) (omega arith))
+
+  several_in : (k : ℕ) (all : List A) (bs : List ℕ) → length bs ≤ n → Keeps n (several inner close finish k all bs)
+  unfolding several
+  several_in zero all bs l = l
+  several_in (suc k) all bs l = bind_in left_of left_of n (inner bs) _ (inner_in bs l) (λ x m.
+      behind_in (several inner close finish k) (several_in k) (all ++ x.0 ∷ []) (skip x.1) (skip_in n x.1 m))
+
+  group_in : (bs : List ℕ) → length bs ≤ n → Keeps n (group inner close finish bs)
+  group_in bs l =
+      cond_in left_of n (begins close bs) (Ok (finish [], drop 1 bs)) (several inner close finish (length bs) [] bs) (drop_in 1 n bs l) (several_in (length bs) [] bs l)
+
 module _ (n : ℕ) (inner : List ℕ → Reads Tree) (inner_in : (bs : List ℕ) → length bs ≤ n → Keeps n (inner bs)) where
-  after_item_in : (more : List Tree → List ℕ → Reads Tree) → ((all : List Tree) (bs : List ℕ) → length bs ≤ n → Keeps n (more all bs))
-      → (all : List Tree) (bs : List ℕ) → length bs ≤ n → Keeps n (after_item inner more all bs)
-  after_item_in more more_in all [] l = omega arith
-  after_item_in more more_in all (b ∷ bs) l = cond_in left_of n (b == 44) (more all bs) _ (more_in all bs (omega arith))
-      (cond_in left_of n (b == 93) (Ok (tree.Array all, bs)) (Err (length bs + 1)) (omega arith) (omega arith))
-
-  items_in : (k : ℕ) (all : List Tree) (bs : List ℕ) → length bs ≤ n → Keeps n (items inner k all bs)
-  unfolding items
-  items_in zero all bs l = l
-  items_in (suc k) all bs l = bind_in left_of left_of n (inner bs) _ (inner_in bs l) (λ x m.
-      after_item_in (items inner k) (items_in k) (all ++ x.0 ∷ []) (skip x.1) (skip_in n x.1 m))
-
-  array_from_in : (bs : List ℕ) → length bs ≤ n → Keeps n (array_from inner bs)
-  array_from_in bs l = cond_in left_of n (begins 93 bs) (Ok (tree.Array [], drop 1 bs)) (items inner (length bs) [] bs) (drop_in 1 n bs l) (items_in (length bs) [] bs l)
-
   array_in : (bs : List ℕ) → length bs ≤ n → Keeps n (array inner bs)
   unfolding array
-  array_in bs l = array_from_in (skip bs) (skip_in n bs l)
+  array_in bs l = group_in n inner 93 tree.Array inner_in (skip bs) (skip_in n bs l)
 
   member_in : (bs : List ℕ) → length bs ≤ n → Keeps n (member inner bs)
   unfolding member
@@ -190,24 +192,9 @@ module _ (n : ℕ) (inner : List ℕ → Reads Tree) (inner_in : (bs : List ℕ)
       bind_in length left_of n (past 58 (skip name.1)) _ (past_in 58 n (skip name.1) (skip_in n name.1 i)) (λ r j.
       bind_in left_of left_of n (inner r) _ (inner_in r j) (λ v m. m))))
 
-  after_member_in : (more : List (List ℕ × Tree) → List ℕ → Reads Tree) → ((all : List (List ℕ × Tree)) (bs : List ℕ) → length bs ≤ n → Keeps n (more all bs))
-      → (all : List (List ℕ × Tree)) (bs : List ℕ) → length bs ≤ n → Keeps n (after_member inner more all bs)
-  after_member_in more more_in all [] l = omega arith
-  after_member_in more more_in all (b ∷ bs) l = cond_in left_of n (b == 44) (more all bs) _ (more_in all bs (omega arith))
-      (cond_in left_of n (b == 125) (Ok (tree.Object all, bs)) (Err (length bs + 1)) (omega arith) (omega arith))
-
-  members_in : (k : ℕ) (all : List (List ℕ × Tree)) (bs : List ℕ) → length bs ≤ n → Keeps n (members inner k all bs)
-  unfolding members
-  members_in zero all bs l = l
-  members_in (suc k) all bs l = bind_in left_of left_of n (member inner bs) _ (member_in bs l) (λ m h.
-      after_member_in (members inner k) (members_in k) (put all (m.0).0 (m.0).1) (skip m.1) (skip_in n m.1 h))
-
-  object_from_in : (bs : List ℕ) → length bs ≤ n → Keeps n (object_from inner bs)
-  object_from_in bs l = cond_in left_of n (begins 125 bs) (Ok (tree.Object [], drop 1 bs)) (members inner (length bs) [] bs) (drop_in 1 n bs l) (members_in (length bs) [] bs l)
-
   object_in : (bs : List ℕ) → length bs ≤ n → Keeps n (object inner bs)
   unfolding object
-  object_in bs l = object_from_in (skip bs) (skip_in n bs l)
+  object_in bs l = group_in n (member inner) 125 object_tree member_in (skip bs) (skip_in n bs l)
 
 word_in : (w : List ℕ) (t : Tree) (n : ℕ) (bs : List ℕ) → length bs ≤ n → Keeps n (word w t bs)
 word_in w t n bs l = bind_in length left_of n (after w bs) _ (after_in w n bs l) (λ r k. k)
