@@ -16,12 +16,15 @@ abbrev pub context_member : List (List ℕ × List ℕ) → List (List ℕ × Li
 context_member [] = []
 context_member (m ∷ ms) = (codes "ctx", object_text (m ∷ ms)) ∷ []
 
+-- the keys of an error, with the text at each
 abbrev pub error_members : Printed → LineError → List (List ℕ × List ℕ)
 error_members p e =
     (codes "type", quoted p.name) ∷ (codes "loc", loc_text e.loc) ∷ (codes "msg", quoted p.message) ∷ (codes "input", compact e.input) ∷ context_member p.context
 
+-- an error
 unfoldable pub error_text : LineError → List ℕ
 error_text e = object_text (error_members (printed_as e.kind) e)
 
+-- the list of errors
 unfoldable pub errors_text : List LineError → List ℕ
 errors_text es = list_text (map error_text es)

@@ -3,6 +3,7 @@ use Rattle.std.specs.Prelude.{List, [], ◌∷◌}
 use Rattle.pv_fault.specs.declared.grade.Grade.{Grade}
 use Rattle.pv_fault.specs.declared.grade.Grade.TheVariants.{Lax, Strict, Exact}
 
+-- the lower of two grades
 abbrev pub least : Grade → Grade → Grade
 least Lax g = Lax
 least Strict Lax = Lax

@@ -5,11 +5,13 @@ use Rattle.pv_notation.specs.Strings.{quoted}
 use Rattle.pv_fault.specs.declared.kind.Kind.{Kind}
 use Rattle.pv_fault.specs.declared.kind.Kind.TheVariants as kind
 
+-- the text of the type, the message, and the keys of the context with the text at each
 pub record Printed : Type 0 where
   pub name : List ℕ
   pub message : List ℕ
   pub context : List (List ℕ × List ℕ)
 
+-- a kind without a context
 abbrev pub without_context : List ℕ → List ℕ → Printed
 without_context name message = record { name = name; message = message; context = [] }
 
@@ -37,6 +39,7 @@ tag_unknown discriminator tag expected_tags = record {
   context = (codes "discriminator", quoted discriminator) ∷ (codes "tag", quoted tag) ∷ (codes "expected_tags", quoted expected_tags) ∷ [];
 }
 
+-- the kinds, in the order of their declaration
 unfoldable pub printed_as : Kind → Printed
 printed_as kind.Missing = without_context (codes "missing") (codes "Field required")
 printed_as kind.ExtraForbidden = without_context (codes "extra_forbidden") (codes "Extra inputs are not permitted")

@@ -5,9 +5,11 @@ use Rattle.pv_fault.specs.declared.faults.LineError.{LineError}
 use Rattle.pv_fault.specs.declared.outcome.Outcome.{Outcome}
 use Rattle.pv_fault.specs.declared.outcome.Outcome.TheVariants.{Good, Bad}
 
+-- one error
 abbrev pub under : Step → LineError → LineError
 under step e = record { kind = e.kind; loc = step ∷ e.loc; input = e.input }
 
+-- several errors
 abbrev pub all_under : Step → List LineError → List LineError
 all_under step = map (under step)
 
@@ -15,6 +17,7 @@ all_under step = map (under step)
 abbrev pub all_under_from : ℕ → Step → List LineError → List LineError
 all_under_from from step es = take from es ++ all_under step (drop from es)
 
+-- an outcome
 abbrev pub outcome_under : Step → Outcome → Outcome
 outcome_under step (Good value grade fields) = Good value grade fields
 outcome_under step (Bad es) = Bad (all_under step es)

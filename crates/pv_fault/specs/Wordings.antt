@@ -10,6 +10,7 @@ use Rattle.pv_fault.specs.declared.pieces.Context.{Context}
 use Rattle.pv_fault.specs.declared.pieces.Wording.{Wording}
 use Rattle.pv_fault.specs.Table.{Printed}
 
+-- as a part of a message
 abbrev pub piece_text : Piece → List ℕ
 piece_text (Text text) = text.now
 piece_text (Number n) = signed_decimal n
@@ -24,9 +25,11 @@ piece_json (Count n) = decimal n
 abbrev pub members_of : Context → List Member
 members_of c = take c.len c.members
 
+-- a key of a context, and the text at it
 abbrev pub key_and_json : Member → List ℕ × List ℕ
 key_and_json m = (m.key.now, piece_json m.value)
 
+-- a whole wording
 abbrev pub printed_by : Wording → Printed
 printed_by w = record {
   name = w.name.now;

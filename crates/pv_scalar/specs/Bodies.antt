@@ -5,6 +5,7 @@ use Rattle.pv_scalar.specs.declared.built.Body.{Body}
 use Rattle.pv_scalar.specs.declared.built.Body.TheVariants as body
 use Rattle.pv_scalar.specs.TestRules.{str_rule, url_rule, enum_rule}
 
+-- by its body
 abbrev pub rule_of : Body → ScalarRule
 rule_of body.Any = rule.Any
 rule_of body.None = rule.None

@@ -10,11 +10,13 @@ use Rattle.pv_rules.specs.declared.Literal.{Literal}
 use Rattle.pv_rules.specs.declared.Literal.TheVariants as literal
 use Rattle.pv_rules.specs.declared.EnumMember.{EnumMember}
 
+-- two flags that are the same
 abbrev pub bool_same : Bool → Bool → Bool
 bool_same true b = b
 bool_same false true = false
 bool_same false false = true
 
+-- two values that are the same
 abbrev pub literal_same : Literal → Literal → Bool
 literal_same literal.Null literal.Null = true
 literal_same (literal.Flag a) (literal.Flag b) = bool_same a b
@@ -22,6 +24,7 @@ literal_same (literal.Int m) (literal.Int n) = int_eq m n
 literal_same (literal.Text s) (literal.Text t) = bytes_eq s t
 literal_same _ _ = false
 
+-- the value that a tree is, by one level of it
 abbrev pub literal_at : Tree-F Tree → Option Literal
 literal_at Tree-F.Null = Some literal.Null
 literal_at (Tree-F.Bool b) = Some (literal.Flag b)
@@ -30,13 +33,16 @@ literal_at (Tree-F.Str text) = Some (literal.Text text)
 literal_at (Tree-F.Array ts) = None
 literal_at (Tree-F.Object ms) = None
 
+-- of a tree
 unfoldable pub literal_of : Tree → Option Literal
 literal_of tree = literal_at (out-Tree tree)
 
+-- a value that is one of these
 abbrev pub is_among : List Literal → Option Literal → Bool
 is_among values (Some l) = list_any (λ v. literal_same v l) values
 is_among values None = false
 
+-- the value of a member
 abbrev pub enum_value : EnumMember → Literal
 enum_value m = m.value
 
@@ -48,6 +54,7 @@ member_with members l = find (λ m. literal_same m.value l) members
 abbrev pub in_quotes : List ℕ → List ℕ
 in_quotes text = 39 ∷ text ++ 39 ∷ []
 
+-- a value in a message
 abbrev pub literal_text : Literal → List ℕ
 literal_text literal.Null = codes "None"
 literal_text (literal.Flag b) = if b then codes "True" else codes "False"
@@ -59,6 +66,7 @@ abbrev pub separator : List (List ℕ) → List ℕ
 separator [] = codes " or "
 separator (x ∷ xs) = codes ", "
 
+-- the texts behind the first
 abbrev pub listed_on : List (List ℕ) → List ℕ
 listed_on [] = []
 listed_on (x ∷ xs) = separator xs ++ (x ++ listed_on xs)
@@ -68,5 +76,6 @@ abbrev pub listed : List (List ℕ) → List ℕ
 listed [] = []
 listed (x ∷ xs) = x ++ listed_on xs
 
+-- values as a list for a reader
 unfoldable pub expected_text : List Literal → List ℕ
 expected_text values = listed (map literal_text values)
