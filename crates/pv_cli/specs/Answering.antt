@@ -49,8 +49,8 @@ of_schema next ends_early = refused (schema_refused schema_end_text) status.Sche
 abbrev pub of_files : Option Bool → List (List ℕ × List ℕ) → List ℕ → List ℕ → Answer
 of_files strict held schema_name name =
     of_file schema_name
-        (λ bytes. of_schema (λ schema. of_file name (of_document strict schema) (file held name)) (reading 128 bytes))
-        (file held schema_name)
+    (λ bytes. of_schema (λ schema. of_file name (of_document strict schema) (file held name)) (reading 128 bytes))
+    (file held schema_name)
 
 -- what the words ask for
 abbrev pub of_asked : List (List ℕ × List ℕ) → Asked → Answer

@@ -175,7 +175,9 @@ impl Tally {
     {
         let from = self.errors.len();
         let key = self.key_here(alloc, name, outcome)?;
-        if self.errors.len() > from && let Err(memory) = self.under_mark(alloc, from) {
+        if self.errors.len() > from
+            && let Err(memory) = self.under_mark(alloc, from)
+        {
             drop(key);
             return Err(memory);
         }
