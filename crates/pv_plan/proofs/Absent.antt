@@ -1,9 +1,9 @@
 -- What stands for an absent schema.
-use Rattle.std.proofs.Common.{◌≡◌, ℕ, ◌+◌, false, List, [], ◌∷◌, None, unwrap_or, ap, sym, ◌∙◌}
+use Rattle.std.proofs.Common.{◌≡◌, ℕ, ◌+◌, false, [], ◌∷◌, None, unwrap_or, ap, sym, ◌∙◌}
 use Rattle.std.specs.List.{flat_map}
 use Rattle.pv_rules.specs.Settings.{plain}
 use Rattle.pv_rules.specs.declared.ScalarRule.TheVariants as rule
-use Rattle.pv_node.specs.declared.Node.{Node, out-roll-Node}
+use Rattle.pv_node.specs.declared.Node.{out-roll-Node}
 use Rattle.pv_node.specs.declared.Body.{out-Body, out-roll-Body}
 use Rattle.pv_node.specs.declared.Body.TheVariants as body
 use Rattle.pv_node.specs.declared.Body.TheVariants.{rolls-Scalar}
@@ -11,7 +11,6 @@ use Rattle.pv_node.specs.declared.Body.TheOpen.{Body-F}
 use Rattle.pv_node.specs.Absent.{any}
 use Rattle.pv_node.specs.Preorder.{preorder, body_of, parts_at}
 use Rattle.pv_node.proofs.Openings.{opens}
-use Rattle.pv_plan.specs.declared.record.Op.{Op}
 use Rattle.pv_plan.specs.declared.record.Op.TheVariants as op
 use Rattle.pv_plan.specs.declared.record.Record.{Record}
 use Rattle.pv_plan.specs.Records.{op_at, slots_at, own_strict}

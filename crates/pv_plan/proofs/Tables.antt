@@ -14,7 +14,6 @@ use Rattle.pv_node.specs.declared.Body.TheOpen.{Body-F}
 use Rattle.pv_node.specs.Absent.{any}
 use Rattle.pv_node.specs.Preorder.{preorder, body_of, parts, parts_at, optional, node_count, nodes_count}
 use Rattle.pv_node.proofs.Openings.{opens}
-use Rattle.pv_plan.specs.declared.record.Op.{Op}
 use Rattle.pv_plan.specs.declared.record.Op.TheVariants as op
 use Rattle.pv_plan.specs.declared.record.Record.{Record}
 use Rattle.pv_plan.specs.Records.{places, op_at, slots_at, own_strict}

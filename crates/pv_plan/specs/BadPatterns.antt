@@ -1,8 +1,6 @@
 -- The first pattern of a schema, in preorder, that the grammar of patterns does not read within
 -- its bound on nesting.
-use Rattle.std.specs.Prelude.{ℕ, ◌+◌, Bool, true, false, nat_le, if◌then◌else◌, List, [], ◌∷◌, ◌++◌, codes, chars, Option, Some, None}
-use Rattle.regex.specs.Patterns.{default_config}
-use Rattle.regex_syntax.specs.Grammar.{read}
+use Rattle.std.specs.Prelude.{ℕ, ◌+◌, Bool, true, false, if◌then◌else◌, List, [], ◌∷◌, ◌++◌, codes, Option, Some, None}
 use Rattle.pv_tree.specs.declared.Step.{Step}
 use Rattle.pv_tree.specs.declared.Step.TheVariants.{Name, Index}
 use Rattle.pv_rules.specs.declared.ScalarRule.{ScalarRule}

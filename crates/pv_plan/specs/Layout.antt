@@ -1,7 +1,7 @@
 -- The table of a schema: record by record, in preorder, and one more for absent schemas.
 use Rattle.std.specs.Prelude.{ℕ, ◌+◌, false, List, [], ◌∷◌, Option, Some, None}
 use Rattle.pv_node.specs.declared.Node.{Node}
-use Rattle.pv_node.specs.Preorder.{body_of, preorder, node_count}
+use Rattle.pv_node.specs.Preorder.{body_of, node_count}
 use Rattle.pv_plan.specs.Records.{op_at, slots_at, own_strict, places}
 use Rattle.pv_plan.specs.declared.record.Record.{Record}
 

@@ -1,5 +1,5 @@
 -- Where ints come from.
-use Rattle.std.proofs.Common.{◌≡◌, ℕ, Bool, true, false, cond, List, ℤ, Option, None, Some, Result, Ok, Err, refl, sym, ap, ◌∙◌, subst}
+use Rattle.std.proofs.Common.{◌≡◌, ℕ, Bool, true, false, cond, List, ℤ, Option, None, Some, Ok, Err, refl, sym, ap, ◌∙◌, subst}
 use Rattle.std.specs.Str.{trim}
 use Rattle.pv_number.specs.ExactNumber.{HasValue, IsWhole, is_integer, number}
 use Rattle.pv_number.specs.WrittenIntegers.{is_i128}
@@ -24,7 +24,7 @@ use Rattle.pv_numeric.specs.Numerals.{IsNumeral}
 use Rattle.pv_numeric.proofs.Wholes.{whole_of_answers}
 use Rattle.pv_numeric.proofs.Numerals.{numeral_in}
 use Rattle.pv_scalar.specs.Tests.{Graded, made_into, with_fault, tested, outcome_of}
-use Rattle.pv_scalar.specs.Integers.{whole_int, number_int, text_int, int_at, int_of, int_fault}
+use Rattle.pv_scalar.specs.Integers.{whole_int, text_int, int_at, int_of, int_fault}
 use Rattle.pv_scalar.specs.Texts.{text_in}
 use Rattle.pv_scalar.specs.Scalars.{int_answer, answer_of, scalar_of}
 use Rattle.pv_scalar.specs.WrittenInts.{IsWrittenInt}

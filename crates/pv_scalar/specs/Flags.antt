@@ -1,12 +1,12 @@
 -- Trees as flags. A number that is 0 or 1 stands for one, and so do some words, in letters of either case.
-use Rattle.std.specs.Prelude.{ℕ, Bool, true, false, ◌||◌, if◌then◌else◌, List, codes, ℤ, pos, Option, None, Some, Result, Ok, Err}
+use Rattle.std.specs.Prelude.{ℕ, Bool, true, false, ◌||◌, if◌then◌else◌, List, codes, pos, Option, None, Some, Ok, Err}
 use Rattle.std.specs.Ordering.{int_eq}
 use Rattle.std.specs.Str.{str_eq_ignore_ascii_case}
 use Rattle.pv_number.specs.declared.Whole.{Whole}
 use Rattle.pv_number.specs.declared.Whole.TheVariants.{Fits, TooBig, Fraction}
 use Rattle.pv_tree.specs.declared.Tree.{Tree, out-Tree}
 use Rattle.pv_tree.specs.declared.Tree.TheOpen.{Tree-F}
-use Rattle.pv_fault.specs.declared.Grade.TheVariants.{Lax, Strict, Exact}
+use Rattle.pv_fault.specs.declared.Grade.TheVariants.{Lax, Exact}
 use Rattle.pv_fault.specs.declared.Kind.TheVariants as kind
 use Rattle.pv_numeric.specs.WholeNumbers.{whole_of}
 use Rattle.pv_scalar.specs.Tests.{Graded, by_column}

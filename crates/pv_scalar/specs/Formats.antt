@@ -1,5 +1,5 @@
 -- UUIDs and URLs.
-use Rattle.std.specs.Prelude.{ℕ, Bool, nat_le, ◌==◌, bytes_eq, List, map, Option, None, Some, Result, Ok, Err}
+use Rattle.std.specs.Prelude.{ℕ, nat_le, ◌==◌, bytes_eq, List, map, Option, None, Some, Err}
 use Rattle.std.specs.List.{list_any}
 use Rattle.pv_tree.specs.declared.Value.{Value}
 use Rattle.pv_tree.specs.declared.Value.TheVariants as value

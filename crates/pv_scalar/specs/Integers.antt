@@ -1,6 +1,6 @@
 -- Trees as ints. A number that is written without a point and an exponent is an int by itself. Another number stands for one where it is whole, and so do
 -- a flag and a text in which a whole number stands.
-use Rattle.std.specs.Prelude.{ℕ, Bool, not, if◌then◌else◌, List, ℤ, pos, int_lt, Option, None, Some, Result, Ok, Err}
+use Rattle.std.specs.Prelude.{ℕ, Bool, not, if◌then◌else◌, List, ℤ, pos, int_lt, Option, None, Some, Ok, Err}
 use Rattle.pv_number.specs.ExactNumber.{is_integer}
 use Rattle.pv_number.specs.declared.Whole.{Whole}
 use Rattle.pv_number.specs.declared.Whole.TheVariants.{Fits, TooBig, Fraction}
@@ -8,7 +8,7 @@ use Rattle.pv_tree.specs.declared.Tree.{Tree, out-Tree}
 use Rattle.pv_tree.specs.declared.Tree.TheOpen.{Tree-F}
 use Rattle.pv_rules.specs.declared.IntRule.{IntRule}
 use Rattle.pv_fault.specs.declared.Grade.{Grade}
-use Rattle.pv_fault.specs.declared.Grade.TheVariants.{Lax, Strict, Exact}
+use Rattle.pv_fault.specs.declared.Grade.TheVariants.{Lax, Exact}
 use Rattle.pv_fault.specs.declared.Kind.{Kind}
 use Rattle.pv_fault.specs.declared.Kind.TheVariants as kind
 use Rattle.pv_numeric.specs.WholeNumbers.{whole_of}

@@ -1,5 +1,5 @@
 -- What each scalar gives for a tree.
-use Rattle.std.specs.Prelude.{ℕ, Bool, true, false, if◌then◌else◌, List, map, ℤ, Option, None, Some, option_and_then, Result, Ok, Err, ⊤}
+use Rattle.std.specs.Prelude.{ℕ, Bool, false, if◌then◌else◌, List, map, ℤ, Option, None, Some, option_and_then, Ok, Err, ⊤}
 use Rattle.pv_tree.specs.Plain.{plain}
 use Rattle.pv_tree.specs.declared.Tree.{Tree, out-Tree}
 use Rattle.pv_tree.specs.Parts.{null_at}
@@ -23,7 +23,7 @@ use Rattle.pv_fault.specs.declared.Grade.TheVariants.{Lax, Strict, Exact}
 use Rattle.pv_fault.specs.declared.Kind.TheVariants as kind
 use Rattle.pv_fault.specs.declared.Outcome.{Outcome}
 use Rattle.pv_formats.specs.Patterns.{IsReadable}
-use Rattle.pv_scalar.specs.Tests.{Graded, by_column, made_into, tested, with_fault, outcome_of}
+use Rattle.pv_scalar.specs.Tests.{Graded, by_column, made_into, tested, outcome_of}
 use Rattle.pv_scalar.specs.Flags.{flag_of}
 use Rattle.pv_scalar.specs.Integers.{int_of, int_fault}
 use Rattle.pv_scalar.specs.Texts.{text_in, of_text, str_in, bytes_in}

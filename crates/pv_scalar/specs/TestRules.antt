@@ -1,7 +1,4 @@
 -- The rules that tests stand for.
-use Rattle.std.specs.Prelude.{ℕ, List}
-use Rattle.pv_rules.specs.declared.ScalarRule.{ScalarRule}
-use Rattle.pv_rules.specs.declared.ScalarRule.TheVariants as rule
 use Rattle.pv_rules.specs.declared.StrRule.{StrRule}
 use Rattle.pv_rules.specs.declared.UrlRule.{UrlRule}
 use Rattle.pv_rules.specs.declared.EnumRule.{EnumRule}

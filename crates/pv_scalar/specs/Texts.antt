@@ -1,5 +1,5 @@
 -- Texts, and the bytes of texts. The lengths of texts count characters, those of bytes count bytes.
-use Rattle.std.specs.Prelude.{ℕ, Bool, nat_le, if◌then◌else◌, List, length, chars, Option, None, Some, unwrap_or, Result, Ok, Err}
+use Rattle.std.specs.Prelude.{ℕ, nat_le, if◌then◌else◌, List, length, chars, Option, None, Some, unwrap_or, Err}
 use Rattle.std.specs.Option.{option_or}
 use Rattle.std.specs.Str.{trim}
 use Rattle.pv_tree.specs.declared.Tree.{Tree, out-Tree}

@@ -1,4 +1,4 @@
-use Rattle.std.proofs.Common.{◌∙◌, ap, ◌++◌, ◌∷◌, [], length, arith}
+use Rattle.std.proofs.Common.{length, arith}
 use Rattle.pv_plan.proofs.Openings.{positions_more}
 use Rattle.pv_plan.proofs.Tables.{on_ok, laid, laid_more, length_laid, numbers_more, dict_laid, dict_numbered}
 use Rattle.pv_plan.proofs.laying.+lay.Goals as goal

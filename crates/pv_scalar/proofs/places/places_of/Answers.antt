@@ -1,4 +1,4 @@
-use Rattle.std.proofs.Common.{rules, refl, arith, sym}
+use Rattle.std.proofs.Common.{refl, arith, sym}
 use Rattle.pv_scalar.proofs.Firsts.{keeps_none, keeps_more}
 use Rattle.pv_scalar.proofs.places.places_of.Goals as goal
 
