@@ -1,5 +1,5 @@
 -- A table that stands for a schema means what the schema means.
-use Rattle.std.proofs.Common.{◌≡◌, ℕ, zero, suc, Bool, List, [], ◌∷◌, map, length, drop, Option, Some, None, slice_get, refl, ap, sym, ◌∙◌, arith, get_or}
+use Rattle.std.proofs.Common.{◌≡◌, ℕ, zero, suc, Bool, List, [], ◌∷◌, map, length, drop, Option, Some, None, slice_get, refl, ap, ◌∙◌, arith, get_or}
 use Rattle.std.proofs.Math.Path.{fun_ext}
 use Rattle.pv_tree.specs.declared.Tree.{Tree}
 use Rattle.pv_fault.specs.declared.Outcome.{Outcome}
@@ -9,7 +9,6 @@ use Rattle.pv_node.specs.declared.Body.TheOpen.{Body-F}
 use Rattle.pv_node.specs.Absent.{or_any}
 use Rattle.pv_node.specs.Preorder.{body_of}
 use Rattle.pv_plan.specs.Records.{Stands, places, op_at, slots_at, own_strict, children_of}
-use Rattle.pv_plan.specs.declared.Op.{Op}
 use Rattle.pv_plan.specs.declared.Record.{Record}
 use Rattle.pv_engine.specs.Rules.{collection}
 use Rattle.pv_engine.specs.Meaning.{meaning, node, node_at, strict_in}
