@@ -3,6 +3,7 @@ use Rattle.std.specs.Prelude.{None, Some}
 use Rattle.pv_number.specs.Scanning.{digits, minus_len, sign_len, whole_len, fraction_len, exponent_len, number_len}
 use Rattle.pv_tree.specs.declared.Tree.TheVariants as tree
 use Rattle.pv_json_grammar.specs.Reading.{number, after, skip}
+use Rattle.pv_json_grammar.specs.Documents.{reading}
 use Rattle.pv_json_grammar.specs.Values.{document, value}
 use Rattle.pv_command.specs.Numbers.{number_below}
 use Rattle.pv_command.specs.Picks.{Role, pick_of}
@@ -14,11 +15,11 @@ use Rattle.pv_command.proofs.Levels.{role_num}
 use Rattle.schema_tests.proofs.commands.words_of_other_commands.Goals as goal
 
 three_is_none : pick_of (codes "3") ≡ None
-unfolding pick_of document value after skip number number_len digits minus_len sign_len whole_len fraction_len exponent_len
+unfolding pick_of reading document value after skip number number_len digits minus_len sign_len whole_len fraction_len exponent_len
 three_is_none = ap (λ (r : Role). cond r.is_pick (Some (tree.Num (51 ∷ []))) None) (role_num (51 ∷ []))
 
 dashes_are_none : pick_of (codes "--exclude") ≡ None
-unfolding pick_of document value after skip number number_len digits minus_len sign_len whole_len fraction_len exponent_len
+unfolding pick_of reading document value after skip number number_len digits minus_len sign_len whole_len fraction_len exponent_len
 dashes_are_none = refl
 
 pub returns-clause-check : goal.returns-clause-check
