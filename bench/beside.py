@@ -64,14 +64,27 @@ CASES = {
 
 
 def run(program, schema, document):
-    """Seconds and bytes at the peak of one run of the program."""
+    """Seconds of one run of the program."""
     start = time.perf_counter()
-    process = subprocess.Popen([program, 'validate', schema, document], stdout=subprocess.DEVNULL)
-    _, status, usage = os.wait4(process.pid, 0)
+    ended = subprocess.run([program, 'validate', schema, document], stdout=subprocess.DEVNULL)
     spent = time.perf_counter() - start
-    process.returncode = os.waitstatus_to_exitcode(status)
-    assert process.returncode in (0, 1), process.returncode
-    return spent, usage.ru_maxrss * 1024
+    assert ended.returncode in (0, 1), ended.returncode
+    return spent
+
+
+# A process counts the peak of the one that started it as its own, so a small one starts the program.
+STARTER = """
+import os, sys
+silent = [(os.POSIX_SPAWN_OPEN, 1, os.devnull, os.O_WRONLY, 0)]
+_, _, usage = os.wait4(os.posix_spawn(sys.argv[1], sys.argv[1:], os.environ, file_actions=silent), 0)
+print(usage.ru_maxrss * 1024)
+"""
+
+
+def peak(program, schema, document):
+    """Bytes at the peak of one run of the program, of those that are more than a small Python's."""
+    words = [sys.executable, '-S', '-c', STARTER, program, 'validate', schema, document]
+    return int(subprocess.run(words, stdout=subprocess.PIPE, check=True).stdout)
 
 
 def beside(validator, serializer, document):
@@ -92,17 +105,16 @@ def measured(program, runs, folder, schema, make, count):
         with open(name, 'w', encoding='utf-8') as file:
             file.write(text)
     bytes_of_it = whole.encode()
-    ours, theirs, quarters, peaks = [], [], [], []
+    ours, theirs, quarters = [], [], []
     if pydantic_core:
         pair = pydantic_core.SchemaValidator(schema), pydantic_core.SchemaSerializer(schema)
     for _ in range(runs):
-        spent, peak = run(program, names[0], names[1])
-        ours.append(spent)
-        peaks.append(peak)
-        quarters.append(run(program, names[0], names[2])[0])
+        ours.append(run(program, names[0], names[1]))
+        quarters.append(run(program, names[0], names[2]))
         if pydantic_core:
             theirs.append(beside(*pair, bytes_of_it))
-    return len(bytes_of_it), min(ours), min(theirs) if theirs else None, max(peaks), min(quarters)
+    most = peak(program, names[0], names[1])
+    return len(bytes_of_it), min(ours), min(theirs) if theirs else None, most, min(quarters)
 
 
 def main():
@@ -111,9 +123,9 @@ def main():
     print(f'{"document and schema":36} {"MB":>5} {"ours":>7} {"theirs":>7} {"ratio":>6} {"memory":>7} {"x4":>5}')
     with tempfile.TemporaryDirectory() as folder:
         for name, (schema, make, count) in CASES.items():
-            size, ours, theirs, peak, quarter = measured(program, runs, folder, schema, make, count)
+            size, ours, theirs, most, quarter = measured(program, runs, folder, schema, make, count)
             there = f'{theirs:7.3f} {ours / theirs:6.2f}' if theirs else f'{"":14}'
-            print(f'{name:36} {size / 1e6:5.1f} {ours:7.3f} {there} {peak / size:7.1f} {ours / quarter:5.1f}', flush=True)
+            print(f'{name:36} {size / 1e6:5.1f} {ours:7.3f} {there} {most / size:7.1f} {ours / quarter:5.1f}', flush=True)
 
 
 if __name__ == '__main__':
