@@ -9,21 +9,30 @@ use Rattle.pv_schema.specs.declared.ShapeCode.TheVariants.{NotObject, MissingKey
 use Rattle.pv_cli.specs.declared.status.Status.{Status}
 use Rattle.pv_cli.specs.declared.status.Status.TheVariants.{Valid, Invalid, WordsRefused, SchemaRefused, ReadFault, TooLarge, WriteFault, Memory, DumpRefused, NotYet}
 
-abbrev pub line : List ℕ → List ℕ
-line text = text ++ 10 ∷ []
+abbrev pub line_feed : ℕ
+line_feed = 10
 
+-- a text and its line feed
+abbrev pub line : List ℕ → List ℕ
+line text = text ++ line_feed ∷ []
+
+-- a file of this name is not there, or was not read
 abbrev pub read_failed : List ℕ → List ℕ
 read_failed name = line (codes "read failed: " ++ quoted name)
 
+-- a file of this name has more bytes than the limit
 abbrev pub too_large : List ℕ → List ℕ
 too_large name = line (codes "too large: " ++ quoted name)
 
+-- the schema file is refused for this reason
 abbrev pub schema_refused : List ℕ → List ℕ
 schema_refused reason = line (codes "schema refused: " ++ reason)
 
+-- the word at this place, from 1, cannot stand there
 abbrev pub words_refused : ℕ → List ℕ
 words_refused at = line (codes "words refused at " ++ decimal at)
 
+-- what is wrong with the shape of a schema
 abbrev pub code_text : ShapeCode → List ℕ
 code_text NotObject = codes "not_object"
 code_text MissingKey = codes "missing_key"
@@ -35,6 +44,7 @@ code_text BadValue = codes "bad_value"
 abbrev pub placed_text : List ℕ → List Step → List ℕ
 placed_text what path = what ++ (codes " at " ++ loc_text path)
 
+-- a schema has too many nodes
 abbrev pub too_many_text : List ℕ
 too_many_text = codes "more than 100000 nodes"
 
@@ -56,7 +66,8 @@ IsLineOf names Memory text = text ≡ line (codes "out of memory")
 IsLineOf names DumpRefused text = ⊥
 IsLineOf names NotYet text = text ≡ line (codes "not built yet")
 
--- what an answer prints on standard output with each status; an answer has none of the other statuses
+-- what an answer prints on standard output with each status; an answer has none of the other
+-- statuses
 abbrev pub IsOutOf : Status → List ℕ → Type 0
 IsOutOf Valid text = Unit {0}
 IsOutOf Invalid text = Unit {0}

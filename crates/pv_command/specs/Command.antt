@@ -12,12 +12,15 @@ pub record Form : Type 0 where
   pub options : List Row
   pub operands : Options → Operands
 
+-- a form of these parts
 abbrev pub form : List ℕ → List Row → (Options → Operands) → Form
 form name options operands = record { name = name; options = options; operands = operands }
 
+-- the command `validate`
 abbrev pub validate_form : Form
 validate_form = form (codes "validate") strictness (λ o. schema_and_document (validate o.strict))
 
+-- all commands
 abbrev pub forms : List Form
 forms =
     validate_form ∷
@@ -27,6 +30,7 @@ forms =
     form (codes "jsonschema") [] (λ o. one_schema jsonschema) ∷
     form (codes "workload") [] (λ o. seed_and_count workload) ∷ []
 
+-- the command of this name
 abbrev pub form_named : List ℕ → Option Form
 form_named word = find (λ f. bytes_eq word f.name) forms
 
@@ -41,19 +45,23 @@ pub data State : Type 0 where
   -- an operand
   operands_from : Operands → State
 
+-- behind a command's name
 abbrev pub behind_name : Option Form → Option State
 behind_name None = None
 behind_name (Some f) = Some (options_from f no_options)
 
+-- behind an option, by what it makes of those before it
 abbrev pub behind_option : Form → Option Effect → Option State
 behind_option f None = None
 behind_option f (Some (flag o)) = Some (options_from f o)
 behind_option f (Some (with_pick next)) = Some (a_pick f next)
 
+-- behind the pick of an option
 abbrev pub behind_pick : Form → (Tree → Options) → Option Tree → Option State
 behind_pick f next None = None
 behind_pick f next (Some t) = Some (options_from f (next t))
 
+-- behind an operand
 abbrev pub behind_operand : Option Operands → Option State
 behind_operand None = None
 behind_operand (Some operands) = Some (operands_from operands)
@@ -61,7 +69,9 @@ behind_operand (Some operands) = Some (operands_from operands)
 -- what may follow when one more word stands there, or `None` where it cannot
 unfoldable pub step : State → List ℕ → Option State
 step a_name word = behind_name (form_named word)
-step (options_from f o) word = if is_option word then behind_option f (effect_of f.options o word) else behind_operand (behind (f.operands o) word)
+step (options_from f o) word =
+    if is_option word then behind_option f (effect_of f.options o word)
+    else behind_operand (behind (f.operands o) word)
 step (a_pick f next) word = behind_pick f next (pick_of word)
 step (operands_from operands) word = behind_operand (behind operands word)
 
@@ -76,10 +86,12 @@ finished (operands_from operands) = completed operands
 abbrev pub Asked : Type 0
 Asked = Result Command ℕ
 
+-- behind the last word, of which this is the next place
 abbrev pub at_end : ℕ → Option Command → Asked
 at_end place None = Err place
 at_end place (Some c) = Ok c
 
+-- at a word, by what may follow it
 abbrev pub onward : ℕ → (State → Asked) → Option State → Asked
 onward place next None = Err place
 onward place next (Some s) = next s
@@ -89,5 +101,6 @@ unfoldable pub asked_from : State → ℕ → List (List ℕ) → Asked
 asked_from s place [] = at_end place (finished s)
 asked_from s place (word ∷ words) = onward place (λ t. asked_from t (place + 1) words) (step s word)
 
+-- of all words
 unfoldable pub command : List (List ℕ) → Asked
 command words = asked_from a_name 1 words

@@ -3,13 +3,17 @@ use Rattle.std.specs.Prelude.{ℕ, Bool, false, true, ◌&&◌, ◌==◌, if◌t
 use Rattle.std.specs.List.{find}
 use Rattle.pv_tree.specs.declared.Tree.{Tree}
 
+abbrev pub dash : ℕ
+dash = 45
+
 -- it begins with two dashes
 abbrev pub is_option : List ℕ → Bool
 is_option [] = false
 is_option (a ∷ []) = false
-is_option (a ∷ b ∷ more) = a == 45 && b == 45
+is_option (a ∷ b ∷ more) = a == dash && b == dash
 
--- what the options ask for: strict or lax, where it is said; the picks as they were read; and whether each of the others stood
+-- what the options ask for: strict or lax, where it is said; the picks as they were read; and
+-- whether each of the others stood
 pub record Options : Type 0 where
   pub strict : Option Bool
   pub include : Option Tree
@@ -19,8 +23,17 @@ pub record Options : Type 0 where
   pub exclude_defaults : Bool
   pub exclude_none : Bool
 
+-- no option stood
 abbrev pub no_options : Options
-no_options = record { strict = None; include = None; exclude = None; by_alias = false; exclude_unset = false; exclude_defaults = false; exclude_none = false }
+no_options = record {
+  strict = None;
+  include = None;
+  exclude = None;
+  by_alias = false;
+  exclude_unset = false;
+  exclude_defaults = false;
+  exclude_none = false;
+}
 
 -- what an option makes of the options before it: it stands by itself, or the next word is its pick
 pub data Effect : Type 0 where
@@ -33,6 +46,7 @@ pub record Row : Type 0 where
   pub is_barred : Options → Bool
   pub effect : Options → Effect
 
+-- a row of these parts
 abbrev pub row : List ℕ → (Options → Bool) → (Options → Effect) → Row
 row name is_barred effect = record { name = name; is_barred = is_barred; effect = effect }
 
@@ -42,6 +56,7 @@ strictness =
     row (codes "--strict") (λ o. is_some o.strict) (λ o. flag (record o { strict = Some true })) ∷
     row (codes "--lax") (λ o. is_some o.strict) (λ o. flag (record o { strict = Some false })) ∷ []
 
+-- the options of a dump alone, of which each bars itself
 abbrev pub serialisation : List Row
 serialisation =
     row (codes "--include") (λ o. is_some o.include) (λ o. with_pick (λ t. record o { include = Some t })) ∷
@@ -51,6 +66,7 @@ serialisation =
     row (codes "--exclude-defaults") (λ o. o.exclude_defaults) (λ o. flag (record o { exclude_defaults = true })) ∷
     row (codes "--exclude-none") (λ o. o.exclude_none) (λ o. flag (record o { exclude_none = true })) ∷ []
 
+-- of the row that was found
 abbrev pub effect_by : Options → Option Row → Option Effect
 effect_by o None = None
 effect_by o (Some r) = if r.is_barred o then None else Some (r.effect o)
