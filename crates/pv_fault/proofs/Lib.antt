@@ -1,3 +1,3 @@
 pub mod Written
-pub mod Undone
+pub mod Turns
 pub mod Sums

@@ -1,5 +1,6 @@
--- Errors and outcomes of a part, seen from the whole: the step to the part stands in front of each location.
-use Rattle.std.specs.Prelude.{ℕ, List, ◌∷◌, ◌++◌, map, take, drop}
+-- Errors and outcomes of a part, seen from the whole: the steps to the part stand in front of each
+-- location.
+use Rattle.std.specs.Prelude.{List, ◌∷◌, ◌++◌, map}
 use Rattle.pv_tree.specs.declared.Step.{Step}
 use Rattle.pv_fault.specs.declared.faults.LineError.{LineError}
 use Rattle.pv_fault.specs.declared.outcome.Outcome.{Outcome}
@@ -13,15 +14,15 @@ under step e = record { kind = e.kind; loc = step ∷ e.loc; input = e.input }
 abbrev pub all_under : Step → List LineError → List LineError
 all_under step = map (under step)
 
--- those before the place stay
-abbrev pub all_under_from : ℕ → Step → List LineError → List LineError
-all_under_from from step es = take from es ++ all_under step (drop from es)
+-- one error, with the steps of a path in front
+abbrev pub at_path : List Step → LineError → LineError
+at_path path e = record { kind = e.kind; loc = path ++ e.loc; input = e.input }
+
+-- several errors
+abbrev pub all_at_path : List Step → List LineError → List LineError
+all_at_path path = map (at_path path)
 
 -- an outcome
 abbrev pub outcome_under : Step → Outcome → Outcome
 outcome_under step (Good value grade fields) = Good value grade fields
 outcome_under step (Bad es) = Bad (all_under step es)
-
--- an error seen from the part in which it stands
-abbrev pub without_first : LineError → LineError
-without_first e = record { kind = e.kind; loc = drop 1 e.loc; input = e.input }

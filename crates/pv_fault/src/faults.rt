@@ -1,7 +1,7 @@
 use crate::kind::Kind;
-use crate::steps::put_under;
+use crate::paths::put_at_path;
 use pv_text::Memory;
-use pv_tree::{Loc, Step, Tree};
+use pv_tree::{Loc, Tree};
 use std::alloc::Global;
 use std::marker::Model;
 
@@ -35,7 +35,7 @@ impl Model for Faults {
 impl Faults {
     ghost use Rattle.std.specs.Prelude.{◌≡◌, ◌≤◌, ◌<◌, [], ◌∷◌, ◌++◌, length, take, slice_get, OnOk, OnErr, OnSome};
     ghost use Rattle.std.specs.Option.{option_copied};
-    ghost use Rattle.pv_fault.specs.Under.{all_under_from};
+    ghost use Rattle.pv_fault.specs.Under.{all_at_path};
 
     pub fn new(alloc: Global) -> Faults
         ensures { result ≡ [] }
@@ -83,21 +83,23 @@ impl Faults {
         Ok(())
     }
 
+    /// Moves the errors of `faults` to the end, each with the steps of the path in front.
+    pub fn append_under(&mut self, path: &Loc, faults: Faults) -> Result<(), Memory>
+        ensures ok { OnOk result (self.new ≡ self.old ++ all_at_path path.now faults) }
+        ensures err { OnErr result (self.new ≡ self.old) }
+    {
+        let alloc = *self.errors.allocator();
+        let Faults { errors: mut more } = faults;
+        put_at_path(alloc, &mut more, path)?;
+        self.errors.append(&mut more)?;
+        Ok(())
+    }
+
     /// Keeps the first `len` errors.
     pub fn cut(&mut self, len: usize)
         requires { len ≤ length self.old }
         ensures { self.new ≡ take len self.old }
     {
         self.errors.truncate(len);
-    }
-
-    /// Puts a step in front of the location of each error from the place `from` on.
-    pub fn under(&mut self, from: usize, step: Step) -> Result<(), Memory>
-        requires { from ≤ length self.old }
-        ensures ok { OnOk result (self.new ≡ all_under_from from step self.old) }
-        ensures err { OnErr result (self.new ≡ self.old) }
-    {
-        let alloc = *self.errors.allocator();
-        put_under(alloc, &mut self.errors[from..], &step)
     }
 }

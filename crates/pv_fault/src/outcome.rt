@@ -14,3 +14,12 @@ pub enum Outcome {
     /// At least one error.
     Bad(Faults),
 }
+
+/// A success, where errors are kept apart.
+#[derive(Drop)]
+pub struct Good {
+    pub value: Value,
+    pub grade: Grade,
+    /// As in `Outcome`.
+    pub fields: Option<u64>,
+}

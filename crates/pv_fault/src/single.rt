@@ -1,6 +1,7 @@
-//! One error, at the input itself.
+//! One error, at the input itself or at the end of a path.
 
-ghost use Rattle.std.specs.Prelude.{◌≡◌, [], ◌∷◌, ◌++◌, IfOk, OnOk};
+ghost use Rattle.std.specs.Prelude.{◌≡◌, [], ◌∷◌, ◌++◌, IfOk, OnOk, OnErr};
+ghost use Rattle.pv_fault.specs.Under.{at_path};
 ghost use Rattle.pv_fault.specs.Single.{error_here};
 ghost use Rattle.pv_fault.specs.Single as spec;
 
@@ -19,6 +20,24 @@ impl Faults {
         self.push(LineError {
             kind,
             loc: Loc::new(alloc),
+            input: input.share(alloc)?,
+        })
+    }
+
+    /// Adds the error of this kind at the input, with the path as its location.
+    pub fn push_at(
+        &mut self,
+        alloc: Global,
+        kind: Kind,
+        path: &Loc,
+        input: &Tree,
+    ) -> Result<(), Memory>
+        ensures ok { OnOk result (self.new ≡ self.old ++ at_path path.now (error_here kind input.now) ∷ []) }
+        ensures err { OnErr result (self.new ≡ self.old) }
+    {
+        self.push(LineError {
+            kind,
+            loc: path.copy(alloc)?,
             input: input.share(alloc)?,
         })
     }
