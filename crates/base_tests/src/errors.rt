@@ -217,21 +217,28 @@ fn two_errors(rt: &impl Abort, alloc: Global) -> Faults
     faults
 }
 
-const UNDER_STEPS: &str =
-    r#"[{"type":"my \"type\"","loc":["a\"b"],"msg":"a\\b\n","input":"é\\"},{"type":"missing","loc":["a\"b",3],"msg":"Field required","input":null}]"#;
+const UNDER_A_PATH: &str =
+    r#"[{"type":"my \"type\"","loc":["a\"b",3],"msg":"a\\b\n","input":"é\\"},{"type":"missing","loc":["a\"b",3],"msg":"Field required","input":null},{"type":"missing","loc":["a\"b",3],"msg":"Field required","input":true}]"#;
 
 #[test]
-fn errors_are_put_under_steps(rt: HostRuntime) {
+fn errors_are_added_under_a_path(rt: HostRuntime) {
     let alloc = rt.alloc();
-    let mut faults = two_errors(&rt, alloc);
-    faults.under(1, Step::Index(3)).expect(&rt, "memory");
-    let step = Step::Name(text(&rt, alloc, "a\"b"));
-    faults.under(0, step).expect(&rt, "memory");
+    let mut path = Loc::new(alloc);
+    path.push(Step::Name(text(&rt, alloc, "a\"b")))
+        .expect(&rt, "memory");
+    path.push(Step::Index(3)).expect(&rt, "memory");
+    let mut faults = Faults::new(alloc);
+    faults
+        .append_under(&path, two_errors(&rt, alloc))
+        .expect(&rt, "memory");
+    faults
+        .push_at(alloc, Kind::Missing, &path, &Tree::Bool(true))
+        .expect(&rt, "memory");
     assert_eq!(rt;
         printed(&rt, alloc, &faults).as_slice(),
-        UNDER_STEPS.as_bytes()
+        UNDER_A_PATH.as_bytes()
     );
-    assert_eq!(rt; faults.len(), 2);
+    assert_eq!(rt; faults.len(), 3);
     faults.cut(1);
     assert!(rt; faults.get(0).is_some() && faults.get(1).is_none());
 }

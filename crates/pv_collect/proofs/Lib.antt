@@ -1,4 +1,3 @@
-pub mod Positions
 pub mod Merges
-pub mod Held
-pub mod Ends
+pub mod Parts
+pub mod Finishing

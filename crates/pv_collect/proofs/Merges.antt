@@ -12,7 +12,7 @@ use Rattle.pv_distinct.specs.Sightings.{IsSeen, place_at, place_of}
 use Rattle.pv_distinct.specs.declared.Seen.{Seen}
 use Rattle.pv_distinct.specs.declared.Place.{Place}
 use Rattle.pv_distinct.specs.declared.Place.TheVariants as place
-use Rattle.pv_collect.specs.State.{keys_of}
+use Rattle.pv_collect.specs.Merged.{keys_of}
 
 place_none : (o : Option ℕ) → place_at o ≡ place.New → o ≡ None
 place_none None h = refl

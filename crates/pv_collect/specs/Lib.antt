@@ -1,2 +1,3 @@
 pub mod Gathering
-pub mod State
+pub mod Kept
+pub mod Merged

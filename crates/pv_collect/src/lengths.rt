@@ -2,9 +2,10 @@
 
 ghost use Rattle.std.specs.Prelude.{◌≡◌, IfOk};
 ghost use Rattle.pv_collect.specs.Gathering as spec;
+ghost use Rattle.pv_collect.specs.Kept as kept;
 
 use crate::errors::field_type;
-use pv_fault::Kind;
+use pv_fault::{Good, Kind};
 use pv_rules::{Collection, GatherRule};
 use pv_text::Memory;
 use std::alloc::Global;
@@ -20,7 +21,7 @@ fn fixed(variadic_item_index: Option<u64>, positions: u64, items: u64) -> Option
 }
 
 /// How many positions a tuple has for so many items; `None` for the other kinds, and where one position takes any number.
-pub(crate) fn wanted(rule: &GatherRule, items: u64) -> Option<u64>
+pub fn wanted(rule: &GatherRule, items: u64) -> Option<u64>
     ensures { result ≡ spec.wanted rule.now items }
 {
     match rule.kind {
@@ -91,4 +92,14 @@ pub(crate) fn length_fault(
         return Ok(Some(fault));
     }
     over(alloc, rule.kind, rule.max_length, kept)
+}
+
+/// A success, or what its length makes wrong.
+pub(crate) fn fitting(fault: Option<Kind>, good: Good) -> Result<Good, Kind>
+    ensures { result ≡ kept.fitting fault good }
+{
+    match fault {
+        Some(fault) => Err(fault),
+        None => Ok(good),
+    }
 }

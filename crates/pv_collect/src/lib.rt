@@ -1,15 +1,16 @@
 //! Lists, tuples, sets and dicts of what validation gave for their parts.
 #![tactic(auto)]
 
+mod entries;
 mod errors;
-mod finishing;
 mod items;
-mod kept;
+mod kinds;
 mod lengths;
 mod merging;
-mod pairs;
 mod tally;
 
+pub use entries::KeptEntries;
 pub use errors::type_error;
-pub use items::GatherItems;
-pub use pairs::GatherPairs;
+pub use items::KeptItems;
+pub use kinds::needs_hash;
+pub use lengths::wanted;

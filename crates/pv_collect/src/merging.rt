@@ -1,23 +1,23 @@
 //! What sets keep of equal items, and dicts of equal keys.
 
-ghost use Rattle.std.specs.Prelude.{◌≡◌, ◌+◌, ◌<◌, List, [], ◌∷◌, ◌++◌, OnOk, length, slice_set, slice_index_or};
+ghost use Rattle.std.specs.Prelude.{◌≡◌, ◌+◌, ◌<◌, List, [], ◌∷◌, ◌++◌, IfOk, OnOk, length, slice_set, slice_index_or};
 ghost use Rattle.pv_tree.specs.declared.Value as tree_value;
 ghost use Rattle.pv_equality.specs.Merging as spec;
 
 use pv_distinct::{Place, Seen};
 use pv_text::Memory;
-use pv_tree::{Entries, Value, Values};
+use pv_tree::Value;
 use std::alloc::Global;
 use std::marker::Model;
 
 /// Values no two of which are the same.
 #[derive(Drop)]
-pub(crate) struct Distinct {
+pub(crate) struct SeenItems {
     values: Vec<Value>,
     seen: Seen,
 }
 
-impl Model for Distinct {
+impl Model for SeenItems {
     ghost use Rattle.std.specs.Prelude.{List};
     ghost use Rattle.pv_tree.specs.declared.Value as tree_value;
     ghost use Rattle.pv_tree.specs.contracts.Value as value;
@@ -33,24 +33,18 @@ impl Model for Distinct {
     ghost invariant = { λ d. IsSeen d.seen d.values.items };
 }
 
-impl Distinct {
-    pub(crate) fn new(alloc: Global) -> Distinct
+impl SeenItems {
+    fn new(alloc: Global) -> SeenItems
         ensures { result ≡ [] }
     {
-        Distinct {
+        SeenItems {
             values: Vec::new(alloc),
             seen: Seen::new(alloc),
         }
     }
 
-    pub(crate) fn len(&self) -> usize
-        ensures { result ≡ length self.now }
-    {
-        self.values.len()
-    }
-
     /// Adds a value, unless one that is there is the same.
-    pub(crate) fn put(&mut self, alloc: Global, value: Value) -> Result<(), Memory>
+    fn put(&mut self, alloc: Global, value: Value) -> Result<(), Memory>
         ensures { OnOk result (self.new ≡ spec.put_item self.old value) }
     {
         let last = self.values.len();
@@ -67,13 +61,19 @@ impl Distinct {
             }
         }
     }
+}
 
-    pub(crate) fn into_values(self) -> Values
-        ensures { result ≡ self }
-    {
-        let Distinct { values, seen: _ } = self;
-        Values::from_vec(values)
+/// Of values the first of each that are the same.
+#[tactic(auto, unfolding(pv_equality::specs::Merging::first_of_each))]
+pub(crate) fn distinct(alloc: Global, values: Vec<Value>) -> Result<Vec<Value>, Memory>
+    ensures { IfOk result (λ kept. kept.items ≡ spec.first_of_each values.items) }
+{
+    let mut kept = SeenItems::new(alloc);
+    for value in values {
+        kept.put(alloc, value)?;
     }
+    let SeenItems { values, seen: _ } = kept;
+    Ok(values)
 }
 
 /// The entry at a place takes this value.
@@ -101,18 +101,18 @@ fn move_last_value(entries: &mut Vec<(Value, Value)>, place: usize)
 
 /// Entries no two of which have the same key.
 #[derive(Drop)]
-pub(crate) struct Merged {
+pub(crate) struct SeenEntries {
     entries: Vec<(Value, Value)>,
     seen: Seen,
 }
 
-impl Model for Merged {
+impl Model for SeenEntries {
     ghost use Rattle.std.specs.Prelude.{List};
     ghost use Rattle.pv_tree.specs.declared.Value as tree_value;
     ghost use Rattle.pv_tree.specs.contracts.Value as value;
     ghost use Rattle.std.specs.Coded.{codes};
     ghost use Rattle.pv_distinct.specs.Sightings.{IsSeen};
-    ghost use Rattle.pv_collect.specs.State.{keys_of};
+    ghost use Rattle.pv_collect.specs.Merged.{keys_of};
 
     ghost Value = { List (tree_value.Value × tree_value.Value) };
 
@@ -123,24 +123,18 @@ impl Model for Merged {
     ghost invariant = { λ m. IsSeen m.seen (keys_of m.entries.items) };
 }
 
-impl Merged {
-    pub(crate) fn new(alloc: Global) -> Merged
+impl SeenEntries {
+    fn new(alloc: Global) -> SeenEntries
         ensures { result ≡ [] }
     {
-        Merged {
+        SeenEntries {
             entries: Vec::new(alloc),
             seen: Seen::new(alloc),
         }
     }
 
-    pub(crate) fn len(&self) -> usize
-        ensures { result ≡ length self.now }
-    {
-        self.entries.len()
-    }
-
     /// Adds an entry; where a key that is there is the same, it keeps its place and takes the value.
-    pub(crate) fn put(&mut self, alloc: Global, entry: (Value, Value)) -> Result<(), Memory>
+    fn put(&mut self, alloc: Global, entry: (Value, Value)) -> Result<(), Memory>
         ensures { OnOk result (self.new ≡ spec.put_entry self.old entry.0 entry.1) }
     {
         let last = self.entries.len();
@@ -157,11 +151,20 @@ impl Merged {
             }
         }
     }
+}
 
-    pub(crate) fn into_entries(self) -> Entries
-        ensures { result ≡ self }
-    {
-        let Merged { entries, seen: _ } = self;
-        Entries::from_vec(entries)
+/// Of entries whose keys are the same the first, with the value of the last.
+#[tactic(auto, unfolding(pv_equality::specs::Merging::merged_entries))]
+pub(crate) fn merged(
+    alloc: Global,
+    entries: Vec<(Value, Value)>,
+) -> Result<Vec<(Value, Value)>, Memory>
+    ensures { IfOk result (λ kept. kept.items ≡ spec.merged_entries entries.items) }
+{
+    let mut kept = SeenEntries::new(alloc);
+    for entry in entries {
+        kept.put(alloc, entry)?;
     }
+    let SeenEntries { entries, seen: _ } = kept;
+    Ok(entries)
 }

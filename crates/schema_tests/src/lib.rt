@@ -1,10 +1,9 @@
-//! Tests of the crates of validation: schemas, values without parts, collections, plans, depth,
-//! words and whole runs. They stand apart, so that no crate is proved a second time for them. What
+//! Tests of the crates of validation: schemas, values without parts, plans, depth, words and whole
+//! runs. They stand apart, so that no crate is proved a second time for them. What
 //! a schema, a document and an answer show is a row of `worked_rows` and no test.
 #![tactic(auto)]
 
 #[cfg(test)]
-mod collections;
 #[cfg(test)]
 mod commands;
 #[cfg(test)]

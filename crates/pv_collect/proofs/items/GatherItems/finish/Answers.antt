@@ -1,6 +1,0 @@
-use Rattle.pv_collect.proofs.Ends.{items_finished}
-use Rattle.pv_collect.proofs.items.GatherItems.finish.Goals as goal
-
-pub returns : goal.returns
-returns c =
-    items_finished c.args.self c.close.new.self c.into_outcome.result c.args.input.now c.in_ok-close.ensures c.into_outcome.ensures
