@@ -1,2 +1,4 @@
 pub mod Agrees
-pub mod Loops
+pub mod Walking
+pub mod Parts
+pub mod Turns

@@ -1,4 +1,6 @@
 pub mod Rules
 pub mod Meaning
 pub mod Run
+pub mod Walks
 pub mod Nests
+pub mod Going

@@ -1,15 +1,33 @@
--- A function value that validates at a level.
-use Rattle.std.specs.Prelude.{◌≡◌, ℕ, Result, IfOk}
-use denote.Ref.{Bor}
+-- A function value that walks the records of a scene.
+use Rattle.std.specs.Prelude.{◌≡◌, ℕ, Option, Result}
+use denote.Ref.{Bor, MutBor}
+use denote.Param.Members.{Shared}
 use Rattle.pv_text.specs.declared.Memory.{Memory}
 use Rattle.pv_tree.specs.declared.Tree.{Tree}
-use Rattle.pv_fault.specs.declared.Outcome.{Outcome}
-use Rattle.pv_engine.specs.declared.level.Level.{Level}
-use Rattle.pv_engine.specs.Run.{given}
+use Rattle.pv_fault.specs.declared.Good.{Good}
+use Rattle.pv_engine.specs.declared.out.Out.{Out}
+use Rattle.pv_engine.specs.declared.scene.Scene.{Scene}
+use Rattle.pv_engine.specs.declared.rules.Rules.{Rules}
+use Rattle.pv_engine.specs.Rules.{Child}
+use Rattle.pv_engine.specs.Run.{means}
+use Rattle.pv_engine.specs.Walks.{Walks}
 
--- it may be called at this level, and gives there what the record of the number gives
-pub record Nests (level : Level) (pre : Bor Level → ℕ → Bor Tree → Type 0)
-    (post : Bor Level → ℕ → Bor Tree → Result Outcome Memory → Type 0) : Type 0 where
-  pub callable : (here : Bor Level) (n : ℕ) (t : Bor Tree) → here.now ≡ level → pre here n t
-  pub means : (here : Bor Level) (n : ℕ) (t : Bor Tree) (r : Result Outcome Memory)
-      → here.now ≡ level → post here n t r → IfOk r (λ o. o ≡ given level n t.now)
+-- what the records mean one depth further down
+abbrev pub below : {F : Type 0} → Rules F → ℕ → Child
+below r = means r.scene.now r.depth
+
+-- the arguments of the function, and its results, where what is lent for writing stands again
+abbrev pub Takes : Type 0
+Takes = Bor Scene × (MutBor Out × (ℕ × (ℕ × (Bor Tree × Unit {0}))))
+
+abbrev pub Gives : Type 0
+Gives = Result (Option Good) Memory × (MutBor Out × Unit {0})
+
+-- it may be called at the depth of the rules, and walks there what the record of the number means
+pub record Nests {F : Type 0} (call : Shared F Takes Gives) (r : Rules F) : Type 0 where
+  pub callable : (s : Bor Scene) (old : MutBor Out) (n : ℕ) (t : Bor Tree)
+      → call.pre r.below (s, (old, (r.depth, (n, (t, tt)))))
+  pub walks : (s : Bor Scene) (old new : MutBor Out) (n : ℕ) (t : Bor Tree)
+      (found : Result (Option Good) Memory) → s.now ≡ r.scene.now
+      → call.post r.below (s, (old, (r.depth, (n, (t, tt))))) (found, (new, tt))
+      → Walks old.now new.now found (below r n t.now)

@@ -8,7 +8,7 @@ use Rattle.pv_scalar.specs.Scalars.{scalar_of}
 use Rattle.pv_plan.specs.declared.Op.{Op}
 use Rattle.pv_plan.specs.declared.Op.TheVariants as op
 use Rattle.pv_plan.specs.declared.Record.{Record}
-use Rattle.pv_engine.specs.declared.level.Level.{Level}
+use Rattle.pv_engine.specs.declared.scene.Scene.{Scene}
 use Rattle.pv_engine.specs.Rules.{Child, no_child, first, collection, nullable}
 use Rattle.pv_engine.specs.Meaning.{strict_in}
 
@@ -28,6 +28,6 @@ unfoldable pub run_table : List Record → Option Bool → ℕ → ℕ → Tree 
 run_table table run zero i t = one_error kind.RecursionLoop t
 run_table table run (suc d) i t = at_record run (run_table table run d) (slice_get table i) t
 
--- the record of a number, at a level
-unfoldable pub given : Level → ℕ → Child
-given level i t = run_table level.table.now level.run level.depth i t
+-- the record of a number of a scene, to this depth
+unfoldable pub means : Scene → ℕ → ℕ → Child
+means scene depth i t = run_table scene.table.now scene.run depth i t

@@ -1,10 +1,17 @@
 //! Validation: what a schema means for a tree.
 #![tactic(auto)]
 
+mod dicts;
+mod finishing;
+mod hashing;
 mod laws;
 mod level;
+mod out;
 mod positions;
 mod rules;
+mod scene;
+mod sequences;
+mod tuples;
 mod validating;
 
 pub use laws::means_the_same;

@@ -1,7 +1,9 @@
 ghost use Rattle.std.specs.Prelude.{◌≡◌, IfOk};
 ghost use Rattle.pv_engine.specs.Meaning.{full_depth, meaning};
 
-use crate::level::{Level, validate_at};
+use crate::level::walk;
+use crate::out::Out;
+use crate::scene::Scene;
 use pv_fault::Outcome;
 use pv_plan::Plan;
 use pv_text::Memory;
@@ -21,11 +23,12 @@ pub fn validate(
 ) -> Result<Outcome, Memory>
     ensures { IfOk result (λ o. o ≡ meaning strict full_depth plan.now t.now) }
 {
-    let level = Level {
+    let scene = Scene {
         alloc,
         table: plan.as_slice(),
         run: strict,
-        depth: DEPTH,
     };
-    validate_at(&level, plan.root(), t)
+    let mut out = Out::new(alloc, plan.as_slice());
+    let found = walk(&scene, &mut out, DEPTH, plan.root(), t)?;
+    Ok(out.outcome(found))
 }

@@ -1,0 +1,157 @@
+//! Dicts: every member by the child of the keys and by that of the values.
+
+ghost use Rattle.std.specs.Prelude.{List, map, codes, length, ◌≡◌, IfOk};
+ghost use Rattle.pv_tree.specs.declared.Step.TheVariants.{Name};
+ghost use Rattle.pv_fault.specs.Under.{outcome_under};
+ghost use Rattle.pv_collect.specs.Gathering.{Pair, gather_pairs};
+ghost use Rattle.pv_engine.specs.Rules as gives;
+ghost use Rattle.pv_engine.specs.Going.{key_in, GoingPairs, WalkedPair};
+ghost use Rattle.pv_engine.specs.Walks.{Walks};
+ghost use Rattle.pv_engine.specs.Nests.{Nests, below};
+ghost use Rattle.pv_engine.specs.declared.out.Out as written;
+
+use crate::hashing::lacks_hash;
+use crate::out::Out;
+use crate::rules::Rules;
+use crate::scene::Scene;
+use pv_collect::KeptEntries;
+use pv_fault::{Good, Kind};
+use pv_rules::GatherRule;
+use pv_text::{Memory, Text};
+use pv_tree::{Step, Tree};
+
+impl<'s, 'a, F: Fn(&Scene<'a>, &mut Out<'a>, u64, u32, &Tree) -> Result<Option<Good>, Memory>>
+    Rules<'s, 'a, F>
+{
+    /// A name as a text by the child of the keys.
+    fn key_here(
+        &self,
+        out: &mut Out<'a>,
+        children: &[u32],
+        name: &Text,
+    ) -> Result<Option<Good>, Memory>
+        requires { Nests F.Fn self.now }
+        ensures { Walks out.old out.new result (key_in name.now
+            (gives.first (map (below self.now) children.now) (Tree.Str name.now))) }
+    {
+        let text = Tree::Str(name.share(self.scene.alloc)?);
+        let found = self.first(out, children, &text)?;
+        if lacks_hash(true, &found) {
+            return out.fail(self.scene.alloc, Kind::DictKeyNotHashable, &text);
+        }
+        Ok(found)
+    }
+
+    /// The same, with the mark of a key on the path.
+    fn key(
+        &self,
+        out: &mut Out<'a>,
+        children: &[u32],
+        mark: &Text,
+        name: &Text,
+    ) -> Result<Option<Good>, Memory>
+        requires nests { Nests F.Fn self.now }
+        requires mark { mark.now ≡ codes "[key]" }
+        ensures { Walks out.old out.new result (outcome_under (Name (codes "[key]")) (key_in name.now
+            (gives.first (map (below self.now) children.now) (Tree.Str name.now)))) }
+    {
+        let len = out.path.len();
+        out.path.push(Step::Name(mark.share(self.scene.alloc)?))?;
+        let found = self.key_here(out, children, name)?;
+        out.path.cut(len);
+        Ok(found)
+    }
+
+    /// What the key of a member gives, and what its value gives.
+    fn member(
+        &self,
+        out: &mut Out<'a>,
+        children: &[u32],
+        mark: &Text,
+        name: &Text,
+        value: &Tree,
+    ) -> Result<(Option<Good>, Option<Good>), Memory>
+        requires nests { Nests F.Fn self.now }
+        requires mark { mark.now ≡ codes "[key]" }
+        ensures { IfOk result (λ both. WalkedPair out.old out.new both.0 both.1
+            (gives.pair (gives.first (map (below self.now) children.now))
+            (gives.second (map (below self.now) children.now)) (name.now, value.now))) }
+    {
+        let len = out.path.len();
+        out.path.push(Step::Name(name.share(self.scene.alloc)?))?;
+        let key = self.key(out, children, mark, name)?;
+        match self.second(out, children, value) {
+            Ok(value) => {
+                out.path.cut(len);
+                Ok((key, value))
+            }
+            Err(memory) => {
+                drop(key);
+                Err(memory)
+            }
+        }
+    }
+
+    /// Ends the walk of all members, before which there were `mark` errors.
+    fn finish_entries(
+        &self,
+        out: &mut Out<'a>,
+        rule: &GatherRule,
+        mark: usize,
+        kept: KeptEntries,
+        tree: &Tree,
+    ) -> Result<Option<Good>, Memory>
+        ensures { (start : written.Out) (ps : List Pair) → GoingPairs start out.old rule.now.kind kept ps → mark ≡ length start.errors
+            → Walks start out.new result (gather_pairs rule.now tree.now ps) }
+    {
+        if out.errors.len() != mark {
+            return Ok(None);
+        }
+        match kept.finish(self.scene.alloc, rule)? {
+            Ok(good) => Ok(Some(good)),
+            Err(fault) => out.fail(self.scene.alloc, fault, tree),
+        }
+    }
+
+    fn members(
+        &self,
+        out: &mut Out<'a>,
+        rule: &GatherRule,
+        children: &[u32],
+        members: &[(Text, Tree)],
+        tree: &Tree,
+    ) -> Result<Option<Good>, Memory>
+        requires { Nests F.Fn self.now }
+        ensures { Walks out.old out.new result (gather_pairs rule.now tree.now
+            (map (gives.pair (gives.first (map (below self.now) children.now))
+            (gives.second (map (below self.now) children.now))) members.now)) }
+    {
+        let mark = out.errors.len();
+        let key_mark = Text::from_str(self.scene.alloc, "[key]")?;
+        let mut kept = KeptEntries::new(self.scene.alloc, rule.kind, members.len())?;
+        for (name, value) in members {
+            let (key, value) = self.member(out, children, &key_mark, name, value)?;
+            kept.take(mark, out.errors.len(), key, value)?;
+        }
+        self.finish_entries(out, rule, mark, kept, tree)
+    }
+
+    #[tactic(auto, unfolding(crate::specs::Rules::dict))]
+    pub(crate) fn dict(
+        &self,
+        out: &mut Out<'a>,
+        rule: &GatherRule,
+        children: &[u32],
+        tree: &Tree,
+    ) -> Result<Option<Good>, Memory>
+        requires { Nests F.Fn self.now }
+        ensures { Walks out.old out.new result (gives.dict rule.now
+            (gives.first (map (below self.now) children.now))
+            (gives.second (map (below self.now) children.now)) tree.now) }
+    {
+        match tree.as_object() {
+            Some(members) => self.members(out, rule, children, members, tree),
+            None => self.wrong_type(out, rule, tree),
+        }
+    }
+}

@@ -1,0 +1,84 @@
+//! What every step of a walk writes.
+
+ghost use Rattle.std.specs.Prelude.{◌≡◌, []};
+ghost use Rattle.pv_fault.specs.Single.{one_error};
+ghost use Rattle.pv_engine.specs.Walks.{Walks, outcome_of};
+
+use pv_fault::{Faults, Good, Kind, Outcome};
+use pv_plan::Record;
+use pv_text::Memory;
+use pv_tree::{Loc, Tree};
+use std::alloc::Global;
+
+/// The errors so far, and the steps from the root to where the walk stands.
+#[derive(Drop)]
+pub(crate) struct Out<'a> {
+    pub(crate) errors: Faults,
+    pub(crate) path: Loc,
+    pub(crate) table: &'a [Record],
+}
+
+impl<'a> Out<'a> {
+    pub(crate) fn new(alloc: Global, table: &'a [Record]) -> Out<'a>
+        ensures errors { result.errors ≡ [] }
+        ensures path { result.path ≡ [] }
+    {
+        Out {
+            errors: Faults::new(alloc),
+            path: Loc::new(alloc),
+            table,
+        }
+    }
+
+    /// The outcome of a walk that began with nothing.
+    pub(crate) fn outcome(self, found: Option<Good>) -> Outcome
+        ensures { result ≡ outcome_of self.entry found }
+    {
+        match found {
+            Some(Good {
+                value,
+                grade,
+                fields,
+            }) => Outcome::Good {
+                value,
+                grade,
+                fields,
+            },
+            None => Outcome::Bad(self.errors),
+        }
+    }
+
+    /// Adds the errors of an outcome, and gives its success.
+    pub(crate) fn put(&mut self, outcome: Outcome) -> Result<Option<Good>, Memory>
+        ensures { Walks self.old self.new result outcome }
+    {
+        match outcome {
+            Outcome::Good {
+                value,
+                grade,
+                fields,
+            } => Ok(Some(Good {
+                value,
+                grade,
+                fields,
+            })),
+            Outcome::Bad(faults) => {
+                self.errors.append_under(&self.path, faults)?;
+                Ok(None)
+            }
+        }
+    }
+
+    /// Adds one error.
+    pub(crate) fn fail(
+        &mut self,
+        alloc: Global,
+        kind: Kind,
+        tree: &Tree,
+    ) -> Result<Option<Good>, Memory>
+        ensures { Walks self.old self.new result (one_error kind tree.now) }
+    {
+        self.errors.push_at(alloc, kind, &self.path, tree)?;
+        Ok(None)
+    }
+}

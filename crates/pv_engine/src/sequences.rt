@@ -1,0 +1,101 @@
+//! Lists, sets and frozensets: every item by the one child.
+
+ghost use Rattle.std.specs.Prelude.{map, length, ◌≡◌};
+ghost use Rattle.pv_fault.specs.Under.{outcome_under};
+ghost use Rattle.pv_tree.specs.declared.Step.TheVariants.{Index};
+ghost use Rattle.pv_collect.specs.Gathering.{gather_items};
+ghost use Rattle.pv_engine.specs.Rules as gives;
+ghost use Rattle.pv_engine.specs.Going.{item_in};
+ghost use Rattle.pv_engine.specs.Walks.{Walks};
+ghost use Rattle.pv_engine.specs.Nests.{Nests, below};
+
+use crate::hashing::lacks_hash;
+use crate::out::Out;
+use crate::rules::Rules;
+use crate::scene::Scene;
+use pv_collect::{KeptItems, needs_hash};
+use pv_fault::{Good, Kind};
+use pv_rules::{Collection, GatherRule};
+use pv_text::Memory;
+use pv_tree::{Step, Tree};
+
+impl<'s, 'a, F: Fn(&Scene<'a>, &mut Out<'a>, u64, u32, &Tree) -> Result<Option<Good>, Memory>>
+    Rules<'s, 'a, F>
+{
+    /// An item by the first child.
+    fn item_here(
+        &self,
+        out: &mut Out<'a>,
+        kind: Collection,
+        children: &[u32],
+        item: &Tree,
+    ) -> Result<Option<Good>, Memory>
+        requires { Nests F.Fn self.now }
+        ensures { Walks out.old out.new result (item_in kind item.now (gives.first (map (below self.now) children.now) item.now)) }
+    {
+        let found = self.first(out, children, item)?;
+        if lacks_hash(needs_hash(kind), &found) {
+            return out.fail(self.scene.alloc, Kind::SetItemNotHashable, item);
+        }
+        Ok(found)
+    }
+
+    /// The item at this place by the first child.
+    pub(crate) fn item(
+        &self,
+        out: &mut Out<'a>,
+        kind: Collection,
+        children: &[u32],
+        place: u64,
+        item: &Tree,
+    ) -> Result<Option<Good>, Memory>
+        requires { Nests F.Fn self.now }
+        ensures { Walks out.old out.new result (outcome_under (Index place)
+            (item_in kind item.now (gives.first (map (below self.now) children.now) item.now))) }
+    {
+        let len = out.path.len();
+        out.path.push(Step::Index(place))?;
+        let found = self.item_here(out, kind, children, item)?;
+        out.path.cut(len);
+        Ok(found)
+    }
+
+    fn items(
+        &self,
+        out: &mut Out<'a>,
+        rule: &GatherRule,
+        children: &[u32],
+        items: &[Tree],
+        tree: &Tree,
+    ) -> Result<Option<Good>, Memory>
+        requires { Nests F.Fn self.now }
+        ensures { Walks out.old out.new result (gather_items rule.now (length items.now) tree.now
+            (map (gives.part (gives.first (map (below self.now) children.now))) items.now)) }
+    {
+        let mark = out.errors.len();
+        let mut kept = KeptItems::new(self.scene.alloc, rule.kind, items.len())?;
+        for (place, item) in items.iter().enumerate() {
+            let found = self.item(out, rule.kind, children, place as u64, item)?;
+            kept.take(mark, out.errors.len(), found)?;
+        }
+        self.finish_items(out, rule, items.len() as u64, mark, kept, tree)
+    }
+
+    #[tactic(auto, unfolding(crate::specs::Rules::sequence))]
+    pub(crate) fn sequence(
+        &self,
+        out: &mut Out<'a>,
+        rule: &GatherRule,
+        children: &[u32],
+        tree: &Tree,
+    ) -> Result<Option<Good>, Memory>
+        requires { Nests F.Fn self.now }
+        ensures { Walks out.old out.new result (gives.sequence rule.now
+            (gives.first (map (below self.now) children.now)) tree.now) }
+    {
+        match tree.as_array() {
+            Some(items) => self.items(out, rule, children, items, tree),
+            None => self.wrong_type(out, rule, tree),
+        }
+    }
+}

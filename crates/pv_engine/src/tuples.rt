@@ -1,0 +1,78 @@
+//! Tuples: every item by the child of its position.
+
+ghost use Rattle.std.specs.Prelude.{map, drop, length, ◌≡◌, ◌<◌};
+ghost use Rattle.pv_collect.specs.Gathering.{gather_items};
+ghost use Rattle.pv_engine.specs.Rules as gives;
+ghost use Rattle.pv_engine.specs.Walks.{Walks};
+ghost use Rattle.pv_engine.specs.Nests.{Nests, below};
+
+use crate::out::Out;
+use crate::positions::position_of;
+use crate::rules::Rules;
+use crate::scene::Scene;
+use pv_collect::KeptItems;
+use pv_fault::Good;
+use pv_rules::GatherRule;
+use pv_text::Memory;
+use pv_tree::Tree;
+
+/// The children from the one on that takes the item at this place of so many items; none past the
+/// positions.
+fn children_from<'c>(rule: &GatherRule, children: &'c [u32], items: u64, place: u64) -> &'c [u32]
+    requires { place < items }
+    ensures { result.now ≡ drop (gives.position_of rule.now.variadic_item_index rule.now.positions items place) children.now }
+{
+    let position = position_of(rule.variadic_item_index, rule.positions, items, place) as usize;
+    if position < children.len() {
+        &children[position..]
+    } else {
+        &[]
+    }
+}
+
+impl<'s, 'a, F: Fn(&Scene<'a>, &mut Out<'a>, u64, u32, &Tree) -> Result<Option<Good>, Memory>>
+    Rules<'s, 'a, F>
+{
+    fn positions(
+        &self,
+        out: &mut Out<'a>,
+        rule: &GatherRule,
+        children: &[u32],
+        items: &[Tree],
+        tree: &Tree,
+    ) -> Result<Option<Good>, Memory>
+        requires { Nests F.Fn self.now }
+        ensures { Walks out.old out.new result (gather_items rule.now (length items.now) tree.now
+            (gives.placed rule.now (map (below self.now) children.now) (length items.now) 0 items.now)) }
+    {
+        let mark = out.errors.len();
+        let count = items.len() as u64;
+        let mut kept = KeptItems::new(self.scene.alloc, rule.kind, items.len())?;
+        for (place, item) in items.iter().enumerate() {
+            let takers = children_from(rule, children, count, place as u64);
+            if takers.is_empty() {
+                return self.finish_items(out, rule, count, mark, kept, tree);
+            }
+            let found = self.item(out, rule.kind, takers, place as u64, item)?;
+            kept.take(mark, out.errors.len(), found)?;
+        }
+        self.finish_items(out, rule, count, mark, kept, tree)
+    }
+
+    #[tactic(auto, unfolding(crate::specs::Rules::tuple))]
+    pub(crate) fn tuple(
+        &self,
+        out: &mut Out<'a>,
+        rule: &GatherRule,
+        children: &[u32],
+        tree: &Tree,
+    ) -> Result<Option<Good>, Memory>
+        requires { Nests F.Fn self.now }
+        ensures { Walks out.old out.new result (gives.tuple rule.now (map (below self.now) children.now) tree.now) }
+    {
+        match tree.as_array() {
+            Some(items) => self.positions(out, rule, children, items, tree),
+            None => self.wrong_type(out, rule, tree),
+        }
+    }
+}
