@@ -4,6 +4,7 @@ use Rattle.std.specs.List.{list_all}
 use Rattle.pv_number.specs.Scanning.{is_digit}
 use Rattle.pv_number.specs.ExactNumber.{natural}
 
+-- digits alone, at least one, and none after a leading zero
 abbrev pub is_decimal : List ℕ → Bool
 is_decimal [] = false
 is_decimal (d ∷ []) = is_digit d

@@ -28,6 +28,7 @@ pub data Operands : Type 0 where
 abbrev pub is_input : List ℕ → Bool
 is_input word = bytes_eq word (codes "-")
 
+-- the operands behind a number, where it was read
 abbrev pub number_by : (ℕ → Operands) → Option ℕ → Option Operands
 number_by next None = None
 number_by next (Some n) = Some (next n)

@@ -13,6 +13,7 @@ use Rattle.pv_notation.specs.Lists.{list_text}
 abbrev pub tagged : List ℕ → List ℕ → List ℕ
 tagged name text = 123 ∷ quoted name ++ 58 ∷ text ++ 125 ∷ []
 
+-- the name of a kind of atom
 abbrev pub atom_name : AtomKind → List ℕ
 atom_name Uuid = codes "uuid"
 atom_name Url = codes "url"
@@ -25,6 +26,7 @@ atom_name Decimal = codes "decimal"
 abbrev pub named_text : List ℕ × List ℕ → List ℕ
 named_text p = list_text (quoted p.0 ∷ p.1 ∷ [])
 
+-- a key beside its value, by their texts
 abbrev pub entry_text : List ℕ × List ℕ → List ℕ
 entry_text p = list_text (p.0 ∷ p.1 ∷ [])
 
@@ -47,11 +49,14 @@ notation_step (Value-F.Model cls fields set extra) =
     tagged (codes "model") (list_text (quoted cls ∷ list_text (map named_text fields) ∷ list_text (map quoted set) ∷ list_text (map named_text extra) ∷ []))
 notation_step (Value-F.Root cls value) = tagged (codes "root") (list_text (quoted cls ∷ value ∷ []))
 
+-- the text of a value
 abbrev pub notation : Value → List ℕ
 notation = fold-Value (List ℕ) notation_step
 
+-- a name beside the text of its value
 abbrev pub named_notation : List ℕ × Value → List ℕ
 named_notation p = list_text (quoted p.0 ∷ notation p.1 ∷ [])
 
+-- an entry of a dict: its key beside its value
 abbrev pub entry_notation : Value × Value → List ℕ
 entry_notation p = list_text (notation p.0 ∷ notation p.1 ∷ [])

@@ -21,5 +21,6 @@ escaped b =
     if short_escape b == 0 then (if nat_lt b 32 then codes "\\u00" ++ hex_byte b else b ∷ [])
     else 92 ∷ short_escape b ∷ []
 
+-- between quotes
 abbrev pub quoted : List ℕ → List ℕ
 quoted bytes = 34 ∷ flat_map escaped bytes ++ 34 ∷ []

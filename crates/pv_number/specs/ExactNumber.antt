@@ -15,6 +15,7 @@ pub record Number : Type 0 where
 abbrev pub digit : ℕ → ℕ
 digit b = if is_digit b then b - 48 else 0
 
+-- the number that digits form behind those of n
 abbrev pub natural_after : ℕ → List ℕ → ℕ
 natural_after n [] = n
 natural_after n (d ∷ ds) = natural_after (n * 10 + digit d) ds
@@ -23,15 +24,19 @@ natural_after n (d ∷ ds) = natural_after (n * 10 + digit d) ds
 abbrev pub natural : List ℕ → ℕ
 natural ds = natural_after 0 ds
 
+-- a number, or behind a minus its negative
 abbrev pub signed : Bool → ℕ → ℤ
 signed minus n = if minus then neg_ℤ (pos n) else pos n
 
+-- the letter before an exponent, in either case
 abbrev pub is_letter : ℕ → Bool
 is_letter b = b == 101 || b == 69
 
+-- the point before a fraction
 abbrev pub is_point : ℕ → Bool
 is_point b = b == 46
 
+-- what stands behind a sign, where there is one
 abbrev pub without_sign : List ℕ → List ℕ
 without_sign t = if begins 45 t || begins 43 t then drop 1 t else t
 
@@ -39,6 +44,7 @@ without_sign t = if begins 45 t || begins 43 t then drop 1 t else t
 abbrev pub significand_text : List ℕ → List ℕ
 significand_text bs = without_sign (before_first is_letter bs)
 
+-- what stands behind the letter of the exponent: its sign and digits
 abbrev pub exponent_text : List ℕ → List ℕ
 exponent_text bs = after_first is_letter bs
 
@@ -54,6 +60,7 @@ abbrev pub IsProduct : ℤ → ℤ → ℤ → Type 0
 IsProduct m (pos e) n = n ≡ m *ℤ pos (10 ^ e)
 IsProduct m (negsuc e) n = m ≡ n *ℤ pos (10 ^ (e + 1))
 
+-- the number is this whole number
 abbrev pub HasValue : Number → ℤ → Type 0
 HasValue a n = IsProduct a.significand a.exponent n
 

@@ -6,6 +6,7 @@ use Rattle.pv_number.specs.Grammar.{IsSign, SomeDigits}
 use Rattle.pv_number.specs.ExactNumber.{natural, signed}
 use Rattle.pv_numeric.specs.NumericStrings.{is_zero}
 
+-- each group is one digit or more
 abbrev pub AllGroups : List (List ℕ) → Type 0
 AllGroups [] = Unit {0}
 AllGroups (ds ∷ dss) = SomeDigits ds × AllGroups dss
