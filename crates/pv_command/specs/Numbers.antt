@@ -12,4 +12,5 @@ is_decimal (d ∷ e ∷ more) = not (d == 48) && list_all is_digit (d ∷ e ∷ 
 
 -- the number of a word, where it is below the bound
 unfoldable pub number_below : ℕ → List ℕ → Option ℕ
-number_below bound word = if is_decimal word && nat_lt (natural word) bound then Some (natural word) else None
+number_below bound word =
+    if is_decimal word && nat_lt (natural word) bound then Some (natural word) else None

@@ -1,4 +1,5 @@
--- Errors and outcomes of a part, seen from the whole: the step to the part stands in front of each location.
+-- Errors and outcomes of a part, seen from the whole: the step to the part stands in front of
+-- each location.
 use Rattle.std.specs.Prelude.{ℕ, List, ◌∷◌, ◌++◌, map, take, drop}
 use Rattle.pv_tree.specs.declared.Step.{Step}
 use Rattle.pv_fault.specs.declared.faults.LineError.{LineError}

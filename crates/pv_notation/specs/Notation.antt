@@ -1,4 +1,5 @@
--- The notation of a value: JSON, in which all but null, flags, whole numbers, texts and lists is an object with one name that says what it is.
+-- The notation of a value: JSON, in which all but null, flags, whole numbers, texts and lists is
+-- an object with one name that says what it is.
 use Rattle.std.specs.Prelude.{ℕ, if◌then◌else◌, List, [], ◌∷◌, ◌++◌, map, codes}
 use Rattle.std.specs.List.{flat_map}
 use Rattle.std.specs.Fmt.{signed_decimal}
@@ -37,16 +38,20 @@ notation_step (Value-F.Bool b) = if b then codes "true" else codes "false"
 notation_step (Value-F.Int n) = signed_decimal n
 notation_step (Value-F.Lexeme lexeme) = tagged (codes "number") (quoted lexeme)
 notation_step (Value-F.Str text) = quoted text
-notation_step (Value-F.Bytes bytes) = tagged (codes "bytes") (34 ∷ flat_map hex_byte bytes ++ 34 ∷ [])
+notation_step (Value-F.Bytes bytes) =
+    tagged (codes "bytes") (34 ∷ flat_map hex_byte bytes ++ 34 ∷ [])
 notation_step (Value-F.Atom kind text) = tagged (atom_name kind) (quoted text)
-notation_step (Value-F.Enum cls name value) = tagged (codes "enum") (list_text (quoted cls ∷ quoted name ∷ value ∷ []))
+notation_step (Value-F.Enum cls name value) =
+    tagged (codes "enum") (list_text (quoted cls ∷ quoted name ∷ value ∷ []))
 notation_step (Value-F.List values) = list_text values
 notation_step (Value-F.Tuple values) = tagged (codes "tuple") (list_text values)
 notation_step (Value-F.Set values) = tagged (codes "set") (list_text values)
 notation_step (Value-F.Frozen values) = tagged (codes "frozenset") (list_text values)
 notation_step (Value-F.Dict entries) = tagged (codes "dict") (list_text (map entry_text entries))
 notation_step (Value-F.Model cls fields set extra) =
-    tagged (codes "model") (list_text (quoted cls ∷ list_text (map named_text fields) ∷ list_text (map quoted set) ∷ list_text (map named_text extra) ∷ []))
+    tagged (codes "model")
+    (list_text (quoted cls ∷ list_text (map named_text fields) ∷ list_text (map quoted set)
+    ∷ list_text (map named_text extra) ∷ []))
 notation_step (Value-F.Root cls value) = tagged (codes "root") (list_text (quoted cls ∷ value ∷ []))
 
 -- the text of a value

@@ -17,7 +17,10 @@ exponent_of e = signed e.negative (natural e.digits.now)
 
 -- the exact number of the parts
 abbrev pub number_of : Decimal → Number
-number_of d = record { significand = signed d.negative (natural (digits d)); exponent = exponent_of d.exponent -ℤ pos (length d.fraction.now) }
+number_of d = record {
+  significand = signed d.negative (natural (digits d));
+  exponent = exponent_of d.exponent -ℤ pos (length d.fraction.now);
+}
 
 -- the number that n digits form from place s on, where zeros stand behind the last digit
 unfoldable pub run : List ℕ → ℕ → ℕ → ℕ

@@ -1,4 +1,5 @@
--- The exact value of a number's spelling: a whole number times a power of ten. Both are read off the bytes, whose form is that of RFC 8259.
+-- The exact value of a number's spelling: a whole number times a power of ten. Both are read off
+-- the bytes, whose form is that of RFC 8259.
 use Rattle.std.specs.Prelude.{◌≡◌, ℕ, ◌+◌, ◌-◌, ◌*◌, ◌^◌, ◌==◌, ◌||◌, Bool, not, if◌then◌else◌, List, [], ◌∷◌, ◌++◌, length, drop, ℤ, pos, negsuc, neg_ℤ, ◌-ℤ◌, ◌*ℤ◌, FitsSigned}
 use Rattle.std.specs.Int.{w128}
 use Rattle.std.specs.List.{before_first, after_first, list_all}
@@ -51,8 +52,13 @@ exponent_text bs = after_first is_letter bs
 -- all digits form the significand, and those behind the point make the exponent less
 unfoldable pub number : List ℕ → Number
 number bs = record {
-  significand = signed (begins 45 bs) (natural (before_first is_point (significand_text bs) ++ after_first is_point (significand_text bs)));
-  exponent = signed (begins 45 (exponent_text bs)) (natural (without_sign (exponent_text bs))) -ℤ pos (length (after_first is_point (significand_text bs)));
+  significand =
+      signed (begins 45 bs)
+      (natural (before_first is_point (significand_text bs)
+      ++ after_first is_point (significand_text bs)));
+  exponent =
+      signed (begins 45 (exponent_text bs)) (natural (without_sign (exponent_text bs)))
+      -ℤ pos (length (after_first is_point (significand_text bs)));
 }
 
 -- n is m times ten to the e

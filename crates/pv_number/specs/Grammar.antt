@@ -21,7 +21,9 @@ IsSign t = (t ≡ []) ⊎ ((t ≡ 45 ∷ []) ⊎ (t ≡ 43 ∷ []))
 
 -- no leading zero
 abbrev pub IsIntegerPart : List ℕ → Type 0
-IsIntegerPart t = (t ≡ 48 ∷ []) ⊎ ((b : ℕ) × (bs : List ℕ) × (t ≡ b ∷ bs) × (b ≢ 48) × IsTrue (is_digit b) × AllDigits bs)
+IsIntegerPart t =
+    (t ≡ 48 ∷ []) ⊎ ((b : ℕ) × (bs : List ℕ) × (t ≡ b ∷ bs) × (b ≢ 48) × IsTrue (is_digit b)
+    × AllDigits bs)
 
 -- nothing, or a point and one digit or more
 abbrev pub IsFraction : List ℕ → Type 0
@@ -29,7 +31,9 @@ IsFraction t = (t ≡ []) ⊎ ((ds : List ℕ) × (t ≡ 46 ∷ ds) × SomeDigit
 
 -- nothing, or the letter of an exponent, a sign or none, and one digit or more
 abbrev pub IsExponent : List ℕ → Type 0
-IsExponent t = (t ≡ []) ⊎ ((e : ℕ) × (s : List ℕ) × (ds : List ℕ) × (t ≡ e ∷ s ++ ds) × ((e ≡ 101) ⊎ (e ≡ 69)) × IsSign s × SomeDigits ds)
+IsExponent t =
+    (t ≡ []) ⊎ ((e : ℕ) × (s : List ℕ) × (ds : List ℕ) × (t ≡ e ∷ s ++ ds) × ((e ≡ 101) ⊎ (e ≡ 69))
+    × IsSign s × SomeDigits ds)
 
 -- a minus or none, a whole part, a fraction or none, and an exponent or none
 pub record IsNumber (text : List ℕ) : Type 0 where

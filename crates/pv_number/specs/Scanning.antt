@@ -1,4 +1,5 @@
--- How far a JSON number reaches from the front of a list of bytes: its length, or how many bytes are left where it breaks off.
+-- How far a JSON number reaches from the front of a list of bytes: its length, or how many bytes
+-- are left where it breaks off.
 use Rattle.std.specs.Prelude.{ℕ, ◌+◌, ◌-◌, Bool, false, ◌||◌, ◌&&◌, if◌then◌else◌, ◌==◌, nat_le, List, [], ◌∷◌, length, drop, Result, Ok, Err}
 
 -- from 0 to 9 in ASCII
@@ -23,7 +24,8 @@ abbrev pub ◌>>=◌ : {A B : Type 0} → Result A ℕ → (A → Result B ℕ) 
 
 -- one digit or more, behind n bytes
 abbrev pub some_digits : ℕ → List ℕ → Result ℕ ℕ
-some_digits n bs = if digits (drop n bs) == 0 then Err (length bs - n) else Ok (digits (drop n bs) + n)
+some_digits n bs =
+    if digits (drop n bs) == 0 then Err (length bs - n) else Ok (digits (drop n bs) + n)
 
 -- how many bytes a minus takes at the front: one, or none where there is none
 unfoldable pub minus_len : List ℕ → ℕ
@@ -43,7 +45,8 @@ fraction_len bs = if begins 46 bs then some_digits 1 bs else Ok 0
 
 -- how many bytes an exponent takes: none where there is no letter for one
 unfoldable pub exponent_len : List ℕ → Result ℕ ℕ
-exponent_len bs = if begins 101 bs || begins 69 bs then some_digits (sign_len (drop 1 bs) + 1) bs else Ok 0
+exponent_len bs =
+    if begins 101 bs || begins 69 bs then some_digits (sign_len (drop 1 bs) + 1) bs else Ok 0
 
 -- how many bytes a number takes at the front: those of its four parts
 unfoldable pub number_len : List ℕ → Result ℕ ℕ

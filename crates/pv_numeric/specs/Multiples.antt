@@ -7,4 +7,5 @@ IsMultiple n m = (k : ℤ) × (n ≡ k *ℤ m)
 
 -- the same by the remainder
 unfoldable pub is_multiple : ℤ → ℤ → Bool
-is_multiple n m = if unsigned_abs m == 0 then unsigned_abs n == 0 else unsigned_abs n % unsigned_abs m == 0
+is_multiple n m =
+    if unsigned_abs m == 0 then unsigned_abs n == 0 else unsigned_abs n % unsigned_abs m == 0

@@ -13,7 +13,8 @@ AllGroups (ds ∷ dss) = SomeDigits ds × AllGroups dss
 
 -- nothing, or a point and any number of zeros
 abbrev pub IsZeroFraction : List ℕ → Type 0
-IsZeroFraction t = (t ≡ []) ⊎ ((zeros : List ℕ) × (t ≡ 46 ∷ zeros) × IsTrue (list_all is_zero zeros))
+IsZeroFraction t =
+    (t ≡ []) ⊎ ((zeros : List ℕ) × (t ≡ 46 ∷ zeros) × IsTrue (list_all is_zero zeros))
 
 -- a sign or none, groups of digits with an underscore between each two, and a fraction of zeros
 pub record IsNumeral (text : List ℕ) (n : ℤ) : Type 0 where

@@ -1,5 +1,6 @@
--- Texts that stand for whole numbers. White space around the number does not count. Behind a sign, which may be left out, stand digits, with single
--- underscores between digits as one likes, and behind them perhaps a point and zeros, of which there may be none.
+-- Texts that stand for whole numbers. White space around the number does not count. Behind a
+-- sign, which may be left out, stand digits, with single underscores between digits as one likes,
+-- and behind them perhaps a point and zeros, of which there may be none.
 use Rattle.std.specs.Prelude.{ℕ, Bool, false, ◌&&◌, ◌==◌, if◌then◌else◌, List, [], ◌∷◌, ℤ, Option, None, Some}
 use Rattle.std.specs.List.{before_first, after_first, list_all, filter, slice_split}
 use Rattle.std.specs.Str.{trim}

@@ -26,4 +26,5 @@ whole_or_fraction None = Fraction
 
 -- what the spelling of a number is
 unfoldable pub whole_of : List ℕ → Whole
-whole_of lexeme = whole_or_fraction (times_ten_to (number lexeme).significand (number lexeme).exponent)
+whole_of lexeme =
+    whole_or_fraction (times_ten_to (number lexeme).significand (number lexeme).exponent)
