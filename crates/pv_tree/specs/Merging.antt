@@ -5,7 +5,7 @@ use Rattle.std.specs.BTreeMap.{BTreeMap, get}
 use Rattle.std.specs.Cmp.Lexicographic.{slice_cmp, nat_list_eq_equiv}
 use Rattle.std.specs.Ordering.{nat_cmp}
 use Rattle.std.specs.List.{position_from, IsDistinct, AllByRecursion}
-use mathlib.Core.Path.{sym, ◌∙◌}
+use mathlib.Core.Path.{◌∙◌}
 use Rattle.pv_tree.specs.Names.{names, HasDistinctNames, Distinct}
 
 -- the order of names, by their bytes
