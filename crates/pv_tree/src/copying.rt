@@ -68,6 +68,35 @@ fn copy_boxed(alloc: Global, value: &Boxed<Value>) -> Result<Boxed<Value>, Memor
     Ok(Boxed::new(alloc, value.get().copy(alloc)?)?)
 }
 
+/// An enum's member with these names, shared, and this value.
+fn enum_of(alloc: Global, cls: &Text, name: &Text, value: Boxed<Value>) -> Result<Value, Memory>
+    ensures { IfOk result (λ v. v ≡ Value.Enum cls.now name.now value) }
+{
+    let cls = cls.share(alloc)?;
+    let name = name.share(alloc)?;
+    Ok(Value::Enum { cls, name, value })
+}
+
+/// A model with this class and these names, shared, and these fields.
+fn model_of(
+    alloc: Global,
+    cls: &Text,
+    set: &Names,
+    fields: Named,
+    extra: Named,
+) -> Result<Value, Memory>
+    ensures { IfOk result (λ v. v ≡ Value.Model cls.now fields set.now extra) }
+{
+    let cls = cls.share(alloc)?;
+    let set = copy_names(alloc, set)?;
+    Ok(Value::Model {
+        cls,
+        fields,
+        set,
+        extra,
+    })
+}
+
 impl Value {
     /// An identical value.
     #[cycle(copy)]
@@ -85,11 +114,9 @@ impl Value {
                 kind: *kind,
                 text: text.share(alloc)?,
             }),
-            Value::Enum { cls, name, value } => Ok(Value::Enum {
-                cls: cls.share(alloc)?,
-                name: name.share(alloc)?,
-                value: copy_boxed(alloc, value)?,
-            }),
+            Value::Enum { cls, name, value } => {
+                enum_of(alloc, cls, name, copy_boxed(alloc, value)?)
+            }
             Value::List(values) => Ok(Value::List(copy_values(alloc, values.as_slice())?)),
             Value::Tuple(values) => Ok(Value::Tuple(copy_values(alloc, values.as_slice())?)),
             Value::Set(values) => Ok(Value::Set(copy_values(alloc, values.as_slice())?)),
@@ -100,12 +127,11 @@ impl Value {
                 fields,
                 set,
                 extra,
-            } => Ok(Value::Model {
-                cls: cls.share(alloc)?,
-                fields: copy_named(alloc, fields)?,
-                set: copy_names(alloc, set)?,
-                extra: copy_named(alloc, extra)?,
-            }),
+            } => {
+                let fields = copy_named(alloc, fields)?;
+                let extra = copy_named(alloc, extra)?;
+                model_of(alloc, cls, set, fields, extra)
+            }
             Value::Root { cls, value } => Ok(Value::Root {
                 cls: cls.share(alloc)?,
                 value: copy_boxed(alloc, value)?,
