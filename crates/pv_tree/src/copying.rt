@@ -55,7 +55,11 @@ fn copy_entries(alloc: Global, entries: &[(Value, Value)]) -> Result<Entries, Me
     let mut all = Vec::with_capacity(alloc, entries.len())?;
     for (key, value) in entries {
         let key = key.copy(alloc)?;
-        let value = value.copy(alloc)?;
+        let Ok(value) = value.copy(alloc) else {
+            // One call: a value that goes out of scope here is proved variant by variant.
+            drop(key);
+            return Err(Memory);
+        };
         all.push((key, value))?;
     }
     Ok(Items::from_vec(all))
