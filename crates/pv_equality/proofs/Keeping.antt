@@ -5,16 +5,13 @@ use Rattle.std.proofs.lemmas.List.Folds.{list_any-append}
 use Rattle.pv_tree.specs.declared.Value.{Value}
 use Rattle.pv_equality.specs.Equality.{same}
 use Rattle.pv_equality.specs.Merging.{AreDistinct, first_behind, first_of_each}
+use Rattle.pv_equality.specs.Steps.{put_item}
 use Rattle.pv_equality.proofs.Anys.{or_both, neither_left, neither_right, none_of_both, not_true, any_front, any_last, none_more}
-use Rattle.pv_equality.proofs.Levels.{same_refl, same_trans}
+use Rattle.pv_equality.proofs.Levels.{same_trans}
 
 -- one of them is the same
 abbrev pub any_same : List Value → Value → Bool
 any_same bs v = list_any (λ b. same b v) bs
-
--- the values when one more came: it goes to the end, where none there is the same
-abbrev pub put_item : List Value → Value → List Value
-put_item kept v = cond (any_same kept v) kept (kept ++ v ∷ [])
 
 absorbed : (bs : List Value) (v w : Value) → any_same bs v ≡ true → same v w ≡ true → any_same bs w ≡ true
 absorbed [] v w e f = cc

@@ -1,20 +1,15 @@
 -- What is kept of entries: entry by entry, and all where no two have the same key.
-use Rattle.std.proofs.Common.{◌≡◌, Bool, true, false, ◌||◌, cond, List, [], ◌∷◌, ◌++◌, map, refl, sym, ap, ◌∙◌, subst}
+use Rattle.std.proofs.Common.{◌≡◌, Bool, true, false, ◌||◌, cond, List, [], ◌∷◌, ◌++◌, map, refl, sym, ap, ◌∙◌}
 use Rattle.std.specs.List.{list_any}
 use Rattle.std.proofs.lemmas.List.{map-append}
 use Rattle.pv_tree.specs.declared.Value.{Value}
 use Rattle.pv_tree.specs.declared.Value.TheVariants as value
 use Rattle.pv_equality.specs.Equality.{same}
 use Rattle.pv_equality.specs.Merging.{AreDistinct, first_of_each, last_value, merged_entries}
+use Rattle.pv_equality.specs.Steps.{put_item, put_entry}
 use Rattle.pv_equality.proofs.Anys.{neither_left, neither_right, not_true}
-use Rattle.pv_equality.proofs.Keeping.{any_same, put_item, first_none, first_more, first_distinct, distinct_stay}
+use Rattle.pv_equality.proofs.Keeping.{any_same, first_none, first_more, first_distinct, distinct_stay}
 use Rattle.pv_equality.proofs.Levels.{same_refl, same_symm, same_trans}
-
--- the entries when one more came: where its key is the same as one there, that one keeps its place
--- and takes the value
-abbrev pub put_entry : List (Value × Value) → Value → Value → List (Value × Value)
-put_entry [] key v = (key, v) ∷ []
-put_entry (e ∷ es) key v = cond (same e.0 key) ((e.0, v) ∷ es) (e ∷ put_entry es key v)
 
 abbrev pub keys_of : List (Value × Value) → List Value
 keys_of es = map (λ e. e.0) es
@@ -88,3 +83,14 @@ pub entries_stay : (es : List (Value × Value)) → AreDistinct (keys_of es) →
 unfolding merged_entries
 entries_stay es a =
     ap (map (λ k. (k, last_value k value.None es))) (distinct_stay (keys_of es) a) ∙ own_values (λ _. value.None) es a
+
+-- the keys of the entries when one more came
+keys_at : (b c : Bool) (k v : Value) (e : Value × Value) (es fs : List (Value × Value)) → keys_of fs ≡ cond c (keys_of es) (keys_of es ++ k ∷ [])
+    → keys_of (cond b ((e.0, v) ∷ es) (e ∷ fs)) ≡ cond (b || c) (e.0 ∷ keys_of es) (e.0 ∷ (keys_of es ++ k ∷ []))
+keys_at true c k v e es fs h = refl
+keys_at false true k v e es fs h = ap (λ ks. e.0 ∷ ks) h
+keys_at false false k v e es fs h = ap (λ ks. e.0 ∷ ks) h
+
+pub keys_more : (es : List (Value × Value)) (k v : Value) → keys_of (put_entry es k v) ≡ put_item (keys_of es) k
+keys_more [] k v = refl
+keys_more (e ∷ es) k v = keys_at (same e.0 k) (any_same (keys_of es) k) k v e es (put_entry es k v) (keys_more es k v)

@@ -7,5 +7,5 @@ mod leaves;
 mod sameness;
 
 pub use hashability::hashable;
-pub use laws::{entries_are_kept_by_their_keys, items_come_one_by_one, sameness_is_equivalence};
+pub use laws::{entries_come_one_by_one, items_come_one_by_one, sameness_is_equivalence};
 pub use sameness::same;
