@@ -4,7 +4,7 @@ use Rattle.std.specs.Prelude.{Option, None, Some, slice_set}
 use Rattle.std.specs.List.{position_from}
 use Rattle.pv_tree.specs.declared.Value.{Value}
 use Rattle.pv_equality.specs.Equality.{same}
-use Rattle.pv_equality.specs.Merging.{put_item, put_entry}
+use Rattle.pv_equality.specs.Steps.{put_item, put_entry}
 use Rattle.pv_distinct.specs.Sightings.{place_at, place_of}
 use Rattle.pv_distinct.specs.declared.seen.Place.TheVariants as place
 use Rattle.pv_distinct.proofs.Sightings.{some_any, none_any}
@@ -23,7 +23,7 @@ item_new kept v h = λ i. cond (none_any (λ k. same k v) 0 kept (new_told (posi
 pub item_old : (kept : List Value) (v : Value) (i : ℕ) → place_of kept v ≡ place.Old i → put_item kept v ≡ kept
 item_old kept v i h = λ j. cond (some_any (λ k. same k v) 0 i kept (old_told (position_from (λ k. same k v) 0 kept) i h) j) kept (kept ++ v ∷ [])
 
-abbrev keys : List (Value × Value) → List Value
+abbrev pub keys : List (Value × Value) → List Value
 keys = map (λ e. e.0)
 
 module _ (k v : Value) where
