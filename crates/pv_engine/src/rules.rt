@@ -14,7 +14,7 @@ use pv_collect::{GatherItems, GatherPairs, type_error};
 use pv_fault::{Grade, Outcome, one_error};
 use pv_plan::{Op, Record};
 use pv_rules::{Collection, GatherRule};
-use pv_scalar::scalar;
+use pv_scalar::{Matchers, scalar};
 use pv_text::{Memory, Text};
 use pv_tree::{Tree, Value};
 
@@ -214,7 +214,11 @@ impl<'a, F: Fn(&Level<'a>, u32, &Tree) -> Result<Outcome, Memory>> Rules<'a, F> 
     {
         let children = slot.children.as_slice();
         match &slot.op {
-            Op::Scalar(rule) => scalar(self.below.alloc, rule, self.strictness(slot), tree),
+            Op::Scalar(rule) => {
+                let mut matchers = Matchers::new(self.below.alloc);
+                let strict = self.strictness(slot);
+                scalar(self.below.alloc, &mut matchers, rule, strict, tree)
+            }
             Op::Gather(rule) => self.collection(rule, children, tree),
             Op::Nullable => self.nullable(children, tree),
         }
