@@ -62,12 +62,17 @@ count_dropped [] (suc i) = omega arith
 count_dropped (x ∷ ss) zero = omega arith
 count_dropped (x ∷ ss) (suc i) = let f = count_first x ss in let g = count_dropped ss i in omega arith
 
--- a node in a slot is smaller
-pub smaller : (n : Node) (i : ℕ) (slot : Slot Node) (m : Node) → slice_get (slots_of n) i ≡ Some slot → slot.node ≡ Some m → node_count m < node_count n
-smaller n i slot m e f =
+-- a slot has fewer nodes than the node
+pub count_in_slot : (n : Node) (i : ℕ) (slot : Slot Node) → slice_get (slots_of n) i ≡ Some slot → count_at slot.node < node_count n
+count_in_slot n i slot e =
     let whole = count_opens n in
     let split = count_split (slots_of n) i slot e in
     let all = count_dropped (slots_of n) i in
+    omega arith
+
+pub smaller : (n : Node) (i : ℕ) (slot : Slot Node) (m : Node) → slice_get (slots_of n) i ≡ Some slot → slot.node ≡ Some m → node_count m < node_count n
+smaller n i slot m e f =
+    let less = count_in_slot n i slot e in
     let here : count_at slot.node ≡ node_count m = ap count_at f in
     omega arith
 

@@ -5,6 +5,7 @@ use Rattle.std.specs.List.{flat_map}
 use Rattle.pv_tree.specs.declared.Step.{Step}
 use Rattle.pv_tree.specs.declared.Step.TheVariants.{Name, Index}
 use Rattle.pv_rules.specs.Settings.{plain}
+use Rattle.pv_rules.specs.declared.ScalarRule.{ScalarRule}
 use Rattle.pv_rules.specs.declared.Settings.{Settings}
 use Rattle.pv_node.specs.declared.node.Node.{Node, out-Node, rec-Node}
 use Rattle.pv_node.specs.declared.node.Body.{Body, out-Body}
@@ -62,6 +63,14 @@ slots (Body-F.Nullable inner) = inner_slot inner ∷ []
 -- the settings that a node configures; no kind of node that exists configures any
 abbrev pub config_at : {X Y : Type 0} → Body-F X Y → Option Settings
 config_at b = None
+
+-- the rule of a node without child schemas
+abbrev pub rule_of : {X Y : Type 0} → Body-F X Y → Option ScalarRule
+rule_of (Body-F.Scalar rule) = Some rule
+rule_of (Body-F.Sequence rule items) = None
+rule_of (Body-F.Tuple rule items) = None
+rule_of (Body-F.Dict rule keys values) = None
+rule_of (Body-F.Nullable inner) = None
 
 -- what a node asks for, with its child schemas in it
 abbrev pub body_of : Node → Body-F Body Node
