@@ -24,19 +24,23 @@ limit = 4194304
 -- a file of this name, and what its content leads to
 abbrev pub of_file : List ℕ → (List ℕ → Answer) → Option (List ℕ) → Answer
 of_file name next None = refused (read_failed name) status.ReadFault
-of_file name next (Some bytes) = if nat_le (length bytes) limit then next bytes else refused (too_large name) status.TooLarge
+of_file name next (Some bytes) =
+    if nat_le (length bytes) limit then next bytes else refused (too_large name) status.TooLarge
 
 -- a schema and its first bad pattern, and what the schema leads to
 abbrev pub of_built : (Node → Answer) → Node → Option (List Step) → Answer
 of_built next schema None = next schema
-of_built next schema (Some path) = refused (schema_refused (placed_text (codes "bad pattern") path)) status.SchemaRefused
+of_built next schema (Some path) =
+    refused (schema_refused (placed_text (codes "bad pattern") path)) status.SchemaRefused
 
 -- Reading gives no want of memory as a refusal.
 abbrev pub of_shape : (Node → Answer) → Result Node SchemaFault → Answer
 of_shape next (Ok schema) = of_built next schema (bad_pattern schema)
-of_shape next (Err (fault.Shape path code)) = refused (schema_refused (placed_text (code_text code) path)) status.SchemaRefused
+of_shape next (Err (fault.Shape path code)) =
+    refused (schema_refused (placed_text (code_text code) path)) status.SchemaRefused
 of_shape next (Err (fault.NotYet path)) = not_built
-of_shape next (Err (fault.TooManyNodes count)) = refused (schema_refused too_many_text) status.SchemaRefused
+of_shape next (Err (fault.TooManyNodes count)) =
+    refused (schema_refused too_many_text) status.SchemaRefused
 of_shape next (Err fault.Memory) = not_built
 
 -- what a schema file is as a document
@@ -49,7 +53,8 @@ of_schema next ends_early = refused (schema_refused schema_end_text) status.Sche
 abbrev pub of_files : Option Bool → List (List ℕ × List ℕ) → List ℕ → List ℕ → Answer
 of_files strict held schema_name name =
     of_file schema_name
-    (λ bytes. of_schema (λ schema. of_file name (of_document strict schema) (file held name)) (reading 128 bytes))
+    (λ bytes. of_schema (λ schema. of_file name (of_document strict schema) (file held name))
+    (reading 128 bytes))
     (file held schema_name)
 
 -- what the words ask for

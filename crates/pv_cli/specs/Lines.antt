@@ -9,6 +9,7 @@ use Rattle.pv_schema.specs.declared.ShapeCode.TheVariants.{NotObject, MissingKey
 use Rattle.pv_cli.specs.declared.status.Status.{Status}
 use Rattle.pv_cli.specs.declared.status.Status.TheVariants.{Valid, Invalid, WordsRefused, SchemaRefused, ReadFault, TooLarge, WriteFault, Memory, DumpRefused, NotYet}
 
+-- the byte at the end of a line
 abbrev pub line_feed : ℕ
 line_feed = 10
 

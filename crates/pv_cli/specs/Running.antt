@@ -22,11 +22,13 @@ abbrev pub IsTold : Held → (List (List ℕ × List ℕ) → Type 0) → Type 0
 IsTold None P = ⊥
 IsTold (Some files) P = P files
 
--- The answer is the one that the files decide, or a read fault that came with the rise of the count of faults from `before` to `now`.
--- Where it is not told what is held, a read fault comes only so.
+-- The answer is the one that the files decide, or a read fault that came with the rise of the
+-- count of faults from `before` to `now`. Where it is not told what is held, a read fault comes
+-- only so.
 abbrev pub Replies : Held → (List (List ℕ × List ℕ) → Answer) → ℕ → ℕ → Answer → Type 0
 Replies None decided before now a = a.status ≡ ReadFault → Rose before now
-Replies (Some files) decided before now a = (a ≡ decided files) ⊎ ((a.status ≡ ReadFault) × Rose before now)
+Replies (Some files) decided before now a =
+    (a ≡ decided files) ⊎ ((a.status ≡ ReadFault) × Rose before now)
 
 -- the statuses that words and files decide by themselves
 abbrev pub is_decided : Status → Bool

@@ -30,7 +30,8 @@ outcome_of (Answered a) next = a
 
 -- what comes of the patterns of a schema
 abbrev pub DecidesBuilt : Node → SchemaStep → Type 0
-DecidesBuilt schema step = (next : Node → Answer) → of_built next schema (bad_pattern schema) ≡ outcome_of step next
+DecidesBuilt schema step =
+    (next : Node → Answer) → of_built next schema (bad_pattern schema) ≡ outcome_of step next
 
 -- what comes of the shape of a schema
 abbrev pub DecidesShape : Result Node SchemaFault → SchemaStep → Type 0

@@ -1,16 +1,17 @@
 //! The members of an object, while none of them failed.
 
 ghost use Rattle.std.specs.Prelude.{◌≡◌, IfOk, OnOk};
+ghost use Rattle.pv_equality.specs.Merging.{merged_entries};
 ghost use Rattle.pv_collect.specs.Kept.{nothing_kept, entry_kept, finished_entries};
 
 use crate::kinds::own_grade;
 use crate::lengths::{fitting, length_fault};
-use crate::merging::merged;
 use crate::tally::Tally;
+use pv_distinct::{merged, merged_named};
 use pv_fault::{Good, Kind};
 use pv_rules::{Collection, GatherRule};
 use pv_text::Memory;
-use pv_tree::{Entries, Value};
+use pv_tree::{Entries, Tree, Value};
 use std::alloc::Global;
 use std::marker::Model;
 
@@ -32,6 +33,20 @@ impl Model for KeptEntries {
     ghost coded = { Prim.hlevel (codes, value.the_row.coded) };
 
     ghost view = { λ k. record { values = k.entries.items; grade = k.tally.grade; count = k.tally.count } };
+}
+
+/// The entries of the members of an object, merged. Most often their keys are the names of the members.
+fn merged_of(
+    alloc: Global,
+    input: &Tree,
+    entries: Vec<(Value, Value)>,
+) -> Result<Vec<(Value, Value)>, Memory>
+    ensures { IfOk result (λ kept. kept.items ≡ merged_entries entries.items) }
+{
+    match input {
+        Tree::Object(members) => merged_named(alloc, members, entries),
+        _ => merged(alloc, entries),
+    }
 }
 
 impl KeptEntries {
@@ -67,12 +82,17 @@ impl KeptEntries {
         Ok(())
     }
 
-    /// The dict, or what its length makes wrong.
-    pub fn finish(self, alloc: Global, rule: &GatherRule) -> Result<Result<Good, Kind>, Memory>
+    /// The dict, or what its length makes wrong. `input` is the object, whose names are most often the keys.
+    pub fn finish(
+        self,
+        alloc: Global,
+        rule: &GatherRule,
+        input: &Tree,
+    ) -> Result<Result<Good, Kind>, Memory>
         ensures { IfOk result (λ found. found ≡ finished_entries rule.now self) }
     {
         let KeptEntries { entries, tally } = self;
-        let entries = merged(alloc, entries)?;
+        let entries = merged_of(alloc, input, entries)?;
         let count = entries.len() as u64;
         let fault = length_fault(alloc, rule, count, count)?;
         let good = Good {

@@ -6,8 +6,8 @@ ghost use Rattle.pv_collect.specs.Kept.{nothing_kept, item_kept, finished_items}
 
 use crate::kinds::{made_of, needs_hash, own_grade};
 use crate::lengths::{fitting, length_fault};
-use crate::merging::distinct;
 use crate::tally::Tally;
+use pv_distinct::distinct;
 use pv_fault::{Good, Kind};
 use pv_rules::{Collection, GatherRule};
 use pv_text::Memory;

@@ -6,7 +6,6 @@ mod errors;
 mod items;
 mod kinds;
 mod lengths;
-mod merging;
 mod tally;
 
 pub use entries::KeptEntries;

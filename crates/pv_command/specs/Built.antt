@@ -14,9 +14,11 @@ use Rattle.pv_command.specs.declared.answers.WordsFault.TheVariants.{Refused, No
 abbrev pub unbuilt : List (List ℕ)
 unbuilt = codes "check" ∷ codes "dump" ∷ codes "jsonschema" ∷ codes "lines" ∷ codes "workload" ∷ []
 
+-- a command that is not built yet
 abbrev pub is_unbuilt : List ℕ → Bool
 is_unbuilt name = list_any (λ n. bytes_eq name n) unbuilt
 
+-- the first word is one
 abbrev pub begins_unbuilt : List (List ℕ) → Bool
 begins_unbuilt [] = false
 begins_unbuilt (name ∷ words) = is_unbuilt name
@@ -40,6 +42,7 @@ Tells (Err place) asked = asked ≡ Err place
 abbrev pub strictly : Bool → Options
 strictly strict = record no_options { strict = Some strict }
 
+-- what an option for strictness does
 abbrev pub strictness_effect : Bool → Effect
 strictness_effect strict = flag (strictly strict)
 

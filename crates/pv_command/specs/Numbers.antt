@@ -4,6 +4,7 @@ use Rattle.std.specs.List.{list_all}
 use Rattle.pv_number.specs.Scanning.{is_digit}
 use Rattle.pv_number.specs.ExactNumber.{natural}
 
+-- digits alone, at least one, and none after a leading zero
 abbrev pub is_decimal : List ℕ → Bool
 is_decimal [] = false
 is_decimal (d ∷ []) = is_digit d
@@ -11,4 +12,5 @@ is_decimal (d ∷ e ∷ more) = not (d == 48) && list_all is_digit (d ∷ e ∷ 
 
 -- the number of a word, where it is below the bound
 unfoldable pub number_below : ℕ → List ℕ → Option ℕ
-number_below bound word = if is_decimal word && nat_lt (natural word) bound then Some (natural word) else None
+number_below bound word =
+    if is_decimal word && nat_lt (natural word) bound then Some (natural word) else None

@@ -12,7 +12,8 @@ pub data Command : Type 0 where
   jsonschema : (schema : List ℕ) → Command
   workload : (seed count : ℕ) → Command
 
--- the operands that have to come: nothing more, or a word of some kind and, by what it says, those behind it
+-- the operands that have to come: nothing more, or a word of some kind and, by what it says,
+-- those behind it
 pub data Operands : Type 0 where
   whole : Command → Operands
   -- a file's name, or `-`
@@ -28,15 +29,18 @@ pub data Operands : Type 0 where
 abbrev pub is_input : List ℕ → Bool
 is_input word = bytes_eq word (codes "-")
 
+-- the operands behind a number, where it was read
 abbrev pub number_by : (ℕ → Operands) → Option ℕ → Option Operands
 number_by next None = None
 number_by next (Some n) = Some (next n)
 
--- what has to come behind a word that stands first among these operands, or `None` where it cannot stand there
+-- what has to come behind a word that stands first among these operands, or `None` where it
+-- cannot stand there
 unfoldable pub behind : Operands → List ℕ → Option Operands
 behind (whole c) word = None
 behind (a_file next) word = Some (next word)
-behind (a_file_beside other next) word = if is_input other && is_input word then None else Some (next word)
+behind (a_file_beside other next) word =
+    if is_input other && is_input word then None else Some (next word)
 behind (a_seed next) word = number_by next (number_below (2 ^ 64) word)
 behind (a_count next) word = number_by next (number_below 100001 word)
 
@@ -50,7 +54,8 @@ completed (a_count next) = None
 
 -- SCHEMA DOC
 abbrev pub schema_and_document : (List ℕ → List ℕ → Command) → Operands
-schema_and_document make = a_file (λ schema. a_file_beside schema (λ document. whole (make schema document)))
+schema_and_document make =
+    a_file (λ schema. a_file_beside schema (λ document. whole (make schema document)))
 
 -- SCHEMA
 abbrev pub one_schema : (List ℕ → Command) → Operands

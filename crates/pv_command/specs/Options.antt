@@ -3,6 +3,7 @@ use Rattle.std.specs.Prelude.{ℕ, Bool, false, true, ◌&&◌, ◌==◌, if◌t
 use Rattle.std.specs.List.{find}
 use Rattle.pv_tree.specs.declared.Tree.{Tree}
 
+-- the byte that options begin with
 abbrev pub dash : ℕ
 dash = 45
 
@@ -59,12 +60,17 @@ strictness =
 -- the options of a dump alone, of which each bars itself
 abbrev pub serialisation : List Row
 serialisation =
-    row (codes "--include") (λ o. is_some o.include) (λ o. with_pick (λ t. record o { include = Some t })) ∷
-    row (codes "--exclude") (λ o. is_some o.exclude) (λ o. with_pick (λ t. record o { exclude = Some t })) ∷
+    row (codes "--include") (λ o. is_some o.include)
+    (λ o. with_pick (λ t. record o { include = Some t })) ∷
+    row (codes "--exclude") (λ o. is_some o.exclude)
+    (λ o. with_pick (λ t. record o { exclude = Some t })) ∷
     row (codes "--by-alias") (λ o. o.by_alias) (λ o. flag (record o { by_alias = true })) ∷
-    row (codes "--exclude-unset") (λ o. o.exclude_unset) (λ o. flag (record o { exclude_unset = true })) ∷
-    row (codes "--exclude-defaults") (λ o. o.exclude_defaults) (λ o. flag (record o { exclude_defaults = true })) ∷
-    row (codes "--exclude-none") (λ o. o.exclude_none) (λ o. flag (record o { exclude_none = true })) ∷ []
+    row (codes "--exclude-unset") (λ o. o.exclude_unset)
+    (λ o. flag (record o { exclude_unset = true })) ∷
+    row (codes "--exclude-defaults") (λ o. o.exclude_defaults)
+    (λ o. flag (record o { exclude_defaults = true })) ∷
+    row (codes "--exclude-none") (λ o. o.exclude_none)
+    (λ o. flag (record o { exclude_none = true })) ∷ []
 
 -- of the row that was found
 abbrev pub effect_by : Options → Option Row → Option Effect

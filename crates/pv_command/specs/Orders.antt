@@ -1,6 +1,7 @@
 -- The options of a dump as they stand among the words.
 use Rattle.std.specs.Prelude.{ℕ, List, [], ◌∷◌, ◌++◌, codes}
 
+-- an option, by its name
 pub data Choice : Type 0 where
   strict lax include exclude by_alias exclude_unset exclude_defaults exclude_none : Choice
 
@@ -20,5 +21,6 @@ abbrev pub options_before : List (Choice × List ℕ) → List (List ℕ) → Li
 options_before [] more = more
 options_before (c ∷ cs) more = spelled c.0 c.1 ++ options_before cs more
 
+-- `dump` with these options, and then more words
 abbrev pub dump_words : List (Choice × List ℕ) → List (List ℕ) → List (List ℕ)
 dump_words options more = codes "dump" ∷ options_before options more

@@ -28,8 +28,10 @@ role_step Tree-F.Null = record { is_pick = false; is_item = false }
 role_step (Tree-F.Bool b) = record { is_pick = b; is_item = false }
 role_step (Tree-F.Num lexeme) = record { is_pick = false; is_item = is_count lexeme }
 role_step (Tree-F.Str text) = record { is_pick = false; is_item = true }
-role_step (Tree-F.Array items) = record { is_pick = list_all (λ i. i.is_item) items; is_item = false }
-role_step (Tree-F.Object d) = record { is_pick = list_all (λ m. m.1.is_pick) d.members; is_item = false }
+role_step (Tree-F.Array items) =
+    record { is_pick = list_all (λ i. i.is_item) items; is_item = false }
+role_step (Tree-F.Object d) =
+    record { is_pick = list_all (λ m. m.1.is_pick) d.members; is_item = false }
 
 -- what a tree can be
 abbrev pub role : Tree → Role

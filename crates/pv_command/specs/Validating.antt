@@ -9,7 +9,8 @@ said None = []
 said (Some true) = codes "--strict" ∷ []
 said (Some false) = codes "--lax" ∷ []
 
-pub record IsValidate (words : List (List ℕ)) (strict : Option Bool) (schema document : List ℕ) : Type 0 where
+pub record IsValidate (words : List (List ℕ)) (strict : Option Bool) (schema document : List ℕ) :
+    Type 0 where
   pub whole : words ≡ codes "validate" ∷ said strict ++ schema ∷ document ∷ []
   pub plain : is_option schema ≡ false
   pub apart : (is_input schema && is_input document) ≡ false

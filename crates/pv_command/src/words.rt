@@ -21,6 +21,7 @@ impl Model for Words {
 impl Words {
     ghost use Rattle.std.specs.Prelude.{◌≡◌, [], ◌∷◌, ◌++◌, OnOk, OnErr};
 
+    /// No words.
     pub fn new(alloc: Global) -> Words
         ensures { result ≡ [] }
     {
@@ -39,6 +40,7 @@ impl Words {
         Ok(())
     }
 
+    /// The words in their order.
     pub fn as_slice(&self) -> &[Text]
         ensures { result.now ≡ self.now }
     {

@@ -5,4 +5,5 @@ pub mod Levels
 pub mod Telling
 pub mod Appending
 pub mod Sightings
-pub mod Entries
+pub mod Placing
+pub mod Putting

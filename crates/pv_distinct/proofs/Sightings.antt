@@ -8,7 +8,7 @@ use Rattle.std.specs.BTreeMap.{get, btree_map_len, Updates}
 use Rattle.std.proofs.lemmas.Cmp.{eq_by_cmp_equiv}
 use Rattle.pv_tree.specs.declared.Value.{Value}
 use Rattle.pv_equality.specs.Equality.{same}
-use Rattle.pv_equality.specs.Merging.{put_item}
+use Rattle.pv_equality.specs.Steps.{put_item}
 use Rattle.pv_equality.proofs.Bools.{same_test}
 use Rattle.pv_equality.proofs.Levels.{same_symm}
 use Rattle.pv_distinct.specs.Keys.{KeyTokens, key, key_cmp}

@@ -1,11 +1,14 @@
-//! An index of values that finds an equal value among those that came before.
+//! What sets keep of equal items, and dicts of equal keys.
 #![tactic(auto)]
 
+mod entries;
+mod items;
 mod key;
 mod laws;
 mod making;
 mod seen;
 mod token;
 
-pub use laws::{keys_tell_values, places_tell_what_is_kept};
-pub use seen::{Place, Seen};
+pub use entries::merged;
+pub use items::distinct;
+pub use laws::keys_tell_values;

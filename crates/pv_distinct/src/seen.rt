@@ -22,7 +22,7 @@ pub struct Seen {
 impl Seen {
     ghost use Rattle.std.specs.Prelude.{◌≡◌, [], List, OnOk, OnErr, IfOk};
     ghost use Rattle.pv_tree.specs.declared.Value.{Value};
-    ghost use Rattle.pv_equality.specs.Merging.{put_item};
+    ghost use Rattle.pv_equality.specs.Steps.{put_item};
     ghost use Rattle.pv_distinct.specs.Sightings.{IsSeen, place_of};
 
     pub fn new(alloc: Global) -> Seen

@@ -1,5 +1,5 @@
--- Files by their names: a list of pairs of a name and content, in which the first pair of a name counts. Where a shelf
--- does not tell what it holds, there is no such list.
+-- Files by their names: a list of pairs of a name and content, in which the first pair of a name
+-- counts. Where a shelf does not tell what it holds, there is no such list.
 use Rattle.std.specs.Prelude.{◌≡◌, ℕ, ◌<◌, ◌≤◌, if◌then◌else◌, List, [], ◌∷◌, length, Option, Some, None, IsSomeAnd, bytes_eq}
 
 -- the content of the file of this name, if there is one

@@ -2,8 +2,8 @@
 use Rattle.std.specs.Prelude.{ℕ, List, [], map, drop, Option, Some, None, string_bytes, slice_get}
 use Rattle.std.specs.declared.string.String.{String}
 
--- the files with their names, the bytes left of the picked one, and the counts; `calls` is the number of the next pick
--- or read, and `failing` has the numbers of those that will fail
+-- the files with their names, the bytes left of the picked one, and the counts; `calls` is the
+-- number of the next pick or read, and `failing` has the numbers of those that will fail
 pub record MemShelfState : Type 0 where
   pub held : List (List ℕ × List ℕ)
   pub rest : List ℕ

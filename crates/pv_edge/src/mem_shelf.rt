@@ -48,6 +48,7 @@ impl Model for MemShelf {
 impl MemShelf {
     ghost use Rattle.std.specs.Prelude.{◌≡◌, ◌<◌, ◌↔◌, [], ◌∷◌, ◌++◌, IsSome, IsErrOf, OnOk, OnErr};
 
+    /// A shelf without files, which gives at most `piece` bytes in one read.
     pub fn new(alloc: Global, piece: usize) -> MemShelf
         requires { 0 < piece }
         ensures { result ≡ record {

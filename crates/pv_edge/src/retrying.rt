@@ -9,6 +9,7 @@ use std::io::{ErrorKind, Read, Write};
 // How often a call is made before an interruption is an error.
 const TRIES: usize = 64;
 
+/// Reads once, and again where a signal came first. The 64th interruption is the answer.
 pub fn read_again<R: Read>(from: &mut R, buf: &mut [u8]) -> io::Result<usize>
     ensures bound { ReadsAtMost result buf.new }
     ensures bytes { ReadConsumes (R.remaining from.old) (R.remaining from.new) result buf.new }
@@ -22,6 +23,7 @@ pub fn read_again<R: Read>(from: &mut R, buf: &mut [u8]) -> io::Result<usize>
     from.read(buf)
 }
 
+/// Writes once, and again where a signal came first. The 64th interruption is the answer.
 pub fn write_again<W: Write>(to: &mut W, piece: &[u8]) -> io::Result<usize>
     ensures bound { WritesAtMost result piece.now }
     ensures bytes { WriteAppends (W.contents to.old) (W.contents to.new) result piece.now }

@@ -22,6 +22,7 @@ pub struct StdShelf<'a, R: Files + Input> {
 impl<'a, R: Files + Input> StdShelf<'a, R> {
     ghost use Rattle.std.specs.Prelude.{◌≡◌};
 
+    /// The files and the standard input of the process. No file is picked yet.
     pub fn new(rt: &'a R) -> StdShelf<'a, R>
         ensures given { ⟦<StdShelf<'a, R> as Shelf>⟧.given result ≡ 0 }
         ensures faults { ⟦<StdShelf<'a, R> as Shelf>⟧.faults result ≡ 0 }

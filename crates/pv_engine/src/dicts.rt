@@ -107,7 +107,7 @@ impl<'s, 'a, F: Fn(&Scene<'a>, &mut Out<'a>, u64, u32, &Tree) -> Result<Option<G
         if out.errors.len() != mark {
             return Ok(None);
         }
-        match kept.finish(self.scene.alloc, rule)? {
+        match kept.finish(self.scene.alloc, rule, tree)? {
             Ok(good) => Ok(Some(good)),
             Err(fault) => out.fail(self.scene.alloc, fault, tree),
         }

@@ -5,28 +5,28 @@ ghost use Rattle.pv_fault.specs.Single.{one_error};
 ghost use Rattle.pv_engine.specs.Walks.{Walks, outcome_of};
 
 use pv_fault::{Faults, Good, Kind, Outcome};
-use pv_plan::Record;
+use pv_scalar::Matchers;
 use pv_text::Memory;
 use pv_tree::{Loc, Tree};
 use std::alloc::Global;
 
-/// The errors so far, and the steps from the root to where the walk stands.
+/// The errors so far, the steps from the root to where the walk stands, and the matchers that were made.
 #[derive(Drop)]
 pub(crate) struct Out<'a> {
     pub(crate) errors: Faults,
     pub(crate) path: Loc,
-    pub(crate) table: &'a [Record],
+    pub(crate) matchers: Matchers<'a>,
 }
 
 impl<'a> Out<'a> {
-    pub(crate) fn new(alloc: Global, table: &'a [Record]) -> Out<'a>
+    pub(crate) fn new(alloc: Global) -> Out<'a>
         ensures errors { result.errors ≡ [] }
         ensures path { result.path ≡ [] }
     {
         Out {
             errors: Faults::new(alloc),
             path: Loc::new(alloc),
-            table,
+            matchers: Matchers::new(alloc),
         }
     }
 

@@ -144,7 +144,8 @@ impl<'s, 'a, F: Fn(&Scene<'a>, &mut Out<'a>, u64, u32, &Tree) -> Result<Option<G
         let children = slot.children.as_slice();
         match &slot.op {
             Op::Scalar(rule) => {
-                let outcome = scalar(self.scene.alloc, rule, self.strictness(slot), tree)?;
+                let strict = self.strictness(slot);
+                let outcome = scalar(self.scene.alloc, &mut out.matchers, rule, strict, tree)?;
                 out.put(outcome)
             }
             Op::Gather(rule) => self.collection(out, rule, children, tree),

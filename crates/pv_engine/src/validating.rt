@@ -28,7 +28,7 @@ pub fn validate(
         table: plan.as_slice(),
         run: strict,
     };
-    let mut out = Out::new(alloc, plan.as_slice());
+    let mut out = Out::new(alloc);
     let found = walk(&scene, &mut out, DEPTH, plan.root(), t)?;
     Ok(out.outcome(found))
 }

@@ -7,4 +7,6 @@ pub mod Inclusion
 pub mod Equivalence
 pub mod Shapes
 pub mod Levels
+pub mod Anys
+pub mod Keeping
 pub mod Merging

@@ -1,3 +1,4 @@
 pub mod Equality
 pub mod Hashable
 pub mod Merging
+pub mod Steps

@@ -1,4 +1,5 @@
--- Sums of counts that may be absent: of those that are there, stopped at 2^64 - 1, and absent where none is there.
+-- Sums of counts that may be absent: of those that are there, stopped at 2^64 - 1, and absent
+-- where none is there.
 use Rattle.std.specs.Prelude.{ℕ, ◌-◌, ◌^◌, min, sum, Option, None, Some, List, [], ◌∷◌}
 
 -- the last value of a count

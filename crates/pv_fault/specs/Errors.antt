@@ -19,7 +19,8 @@ context_member (m ∷ ms) = (codes "ctx", object_text (m ∷ ms)) ∷ []
 -- the keys of an error, with the text at each
 abbrev pub error_members : Printed → LineError → List (List ℕ × List ℕ)
 error_members p e =
-    (codes "type", quoted p.name) ∷ (codes "loc", loc_text e.loc) ∷ (codes "msg", quoted p.message) ∷ (codes "input", compact e.input) ∷ context_member p.context
+    (codes "type", quoted p.name) ∷ (codes "loc", loc_text e.loc) ∷ (codes "msg", quoted p.message)
+    ∷ (codes "input", compact e.input) ∷ context_member p.context
 
 -- an error
 unfoldable pub error_text : LineError → List ℕ

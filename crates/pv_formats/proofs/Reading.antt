@@ -1,5 +1,5 @@
 -- What `Regex::new` says of its text, in the words of specs/Grammar.antt.
-use Rattle.std.proofs.Common.{◌≡◌, ◌≢◌, ◌≤◌, ◌<◌, ℕ, List, Option, Some, None, IsSomeAnd, IfSome, is_some, unwrap_or, option_map, get_or, length, false, true, arith, inl, inr, ⊎_elim, subst}
+use Rattle.std.proofs.Common.{◌≡◌, ◌≢◌, ◌≤◌, ◌<◌, ℕ, List, Option, Some, None, IsSomeAnd, IfSome, is_some, unwrap_or, option_map, get_or, length, false, true, arith, ⊎_elim, subst}
 use Rattle.std.specs.Str.{chars}
 use Rattle.regex.specs.Patterns.{Re, SameCaptures, default_config, find_str, Reads, Refuses}
 use Rattle.regex.proofs.ForCallers.{is_match_alike}
@@ -8,7 +8,7 @@ use Rattle.regex_hir.specs.declared.hir.Hir.{Hir}
 use Rattle.regex_syntax.specs.Brackets.{Nested}
 use Rattle.regex_syntax.specs.Grammar.{Names, read, group_count}
 use Rattle.regex_syntax.specs.declared.error.ErrorKind.{ErrorKind}
-use Rattle.regex_syntax.specs.declared.error.ErrorKind.TheVariants.{OutOfMemory, NestLimitExceeded}
+use Rattle.regex_syntax.specs.declared.error.ErrorKind.TheVariants.{OutOfMemory}
 use Rattle.regex.specs.Sources.{IsRefusal}
 use Rattle.regex.specs.Failures.{IsRightKind}
 use Rattle.regex.specs.declared.error.Error.{Error}

@@ -1,5 +1,5 @@
 use pv_text::{Memory, Text};
-use regex::Regex;
+use regex::{Matcher, Regex};
 use std::alloc::Global;
 use std::marker::Model;
 use thiserror::Error;
@@ -33,7 +33,8 @@ impl Model for Pattern {
 
 impl Pattern {
     ghost use Rattle.std.specs.Prelude.{◌≡◌, IfOk};
-    ghost use Rattle.pv_formats.specs.Patterns.{matches};
+    ghost use Rattle.regex.specs.Strings.{matcher_pattern};
+    ghost use Rattle.pv_formats.specs.Patterns.{MatchesAs};
 
     pub fn as_str(&self) -> &str
         ensures { result.now ≡ self.now }
@@ -41,12 +42,12 @@ impl Pattern {
         self.regex.as_str()
     }
 
-    /// Whether the pattern has a match anywhere in the text.
-    pub fn is_match(&self, alloc: Global, text: &str) -> Result<bool, Memory>
-        ensures { IfOk result (λ found. found ≡ matches self.now text.now) }
+    /// A matcher of the pattern.
+    pub(crate) fn matcher(&self, alloc: Global) -> Result<Matcher<'_>, Memory>
+        ensures { IfOk result (λ m. MatchesAs (matcher_pattern m) self.now) }
     {
-        let mut matcher = self.regex.matcher(alloc)?;
-        Ok(matcher.is_match(text))
+        let matcher = self.regex.matcher(alloc)?;
+        Ok(matcher)
     }
 }
 

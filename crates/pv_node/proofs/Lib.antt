@@ -1,2 +1,9 @@
 pub mod Openings
+pub mod Induction
+pub mod Shapes
 pub mod Counts
+pub mod Firsts
+pub mod Preorder
+pub mod Lending
+pub mod Clear
+pub mod Outward

@@ -1,2 +1,5 @@
+pub mod Places
 pub mod Preorder
+pub mod Lending
+pub mod Outward
 pub mod Absent

@@ -1,64 +1,59 @@
--- The nodes of a schema: a node comes before its child schemas, and these come in the order of
--- their keys.
-use Rattle.std.specs.Prelude.{ℕ, List, [], ◌∷◌, ◌++◌, length, Option, Some, None}
-use Rattle.std.specs.List.{flat_map}
-use Rattle.pv_node.specs.declared.node.Node.{Node, out-Node, rec-Node}
-use Rattle.pv_node.specs.declared.node.Body.{Body, out-Body}
-use Rattle.pv_node.specs.declared.node.Body.TheOpen.{Body-F, Node-F}
+-- What is read off the places of a schema: its nodes in order, their number, and the first that
+-- passes a test.
+use Rattle.std.specs.Prelude.{ℕ, Bool, List, [], ◌∷◌, ◌++◌, map, length, Option, Some, None, if◌then◌else◌}
+use Rattle.std.specs.List.{find, flat_map, sum_by}
+use Rattle.std.specs.Option.{option_map, option_or}
+use Rattle.pv_node.specs.declared.node.Node.{Node}
+use Rattle.pv_node.specs.Places.{Path, Slot, places, slots_of}
+
+-- the nodes of a schema
+unfoldable pub preorder : Node → List Node
+preorder root = map (λ place. place.node) (places root)
+
+-- how many nodes a schema has
+unfoldable pub node_count : Node → ℕ
+node_count root = length (places root)
+
+-- the path of the first node of a schema that passes a test
+unfoldable pub first_path : (Node → Bool) → Node → Option Path
+first_path test root = option_map (λ place. place.path) (find (λ place. test place.node) (places root))
 
 -- what is there, as a list
 abbrev pub optional : {X : Type 0} → Option X → List X
 optional None = []
 optional (Some x) = x ∷ []
 
--- what a node asks for, with its child schemas in it
-abbrev pub body_of : Node → Body-F Body Node
-body_of n = out-Body (out-Node n).body
+-- the nodes that are written in slots
+abbrev pub written : {Y : Type 0} → List (Slot Y) → List Y
+written ss = flat_map (λ slot. optional slot.node) ss
 
--- the child schemas that are written, by the body
-abbrev pub parts_at : {X Y : Type 0} → Body-F X Y → List Y
-parts_at (Body-F.Scalar rule) = []
-parts_at (Body-F.Sequence rule items) = optional items
-parts_at (Body-F.Tuple rule items) = items
-parts_at (Body-F.Dict rule keys values) = optional keys ++ optional values
-parts_at (Body-F.Nullable inner) = inner ∷ []
-
--- the same of a node
+-- the child schemas of a node
 abbrev pub parts : Node → List Node
-parts n = parts_at (body_of n)
+parts n = written (slots_of n)
 
--- the nodes inside a node or a body
-pub record Inside : Type 1 where
-  pub nodes : List Node
+-- how many nodes stand where one may be written
+abbrev pub count_at : Option Node → ℕ
+count_at None = 0
+count_at (Some n) = node_count n
 
--- those inside a body, by those inside its child schemas
-abbrev pub body_step : (X Y : Type 0) → (X → Body) → (Y → Node) → (X → Inside) → (Y → Inside)
-    → Body-F X Y → Inside
-body_step X Y body node bodies nodes b = record {
-  nodes = flat_map (λ y. node y ∷ (nodes y).nodes) (parts_at b);
-}
+-- how many stand in slots
+abbrev pub slots_count : List (Slot Node) → ℕ
+slots_count ss = sum_by (λ slot. count_at slot.node) ss
 
--- those inside a node, by those inside its body
-abbrev pub node_step : (X Y : Type 0) → (X → Body) → (Y → Node) → (X → Inside) → (Y → Inside)
-    → Node-F X Y → Inside
-node_step X Y body node bodies nodes n = bodies n.body
+-- the first answer that there is
+abbrev pub first_in : {X Y : Type 0} → (X → Option Y) → List X → Option Y
+first_in f [] = None
+first_in f (x ∷ xs) = option_or (f x) (first_in f xs)
 
--- those inside a node
-abbrev pub inside_in : Node → Inside
-inside_in = rec-Node Inside Inside body_step node_step
+-- the path to the first that passes a test, where a node may be written
+abbrev pub path_at : (Node → Bool) → Path → Option Node → Option Path
+path_at test p None = None
+path_at test p (Some n) = option_map (λ q. p ++ q) (first_path test n)
 
--- the same as a list
-unfoldable pub inside : Node → List Node
-inside n = (inside_in n).nodes
+-- the same of a slot
+abbrev pub path_in : (Node → Bool) → Slot Node → Option Path
+path_in test slot = path_at test slot.path slot.node
 
--- a node, and the nodes inside it
-unfoldable pub preorder : Node → List Node
-preorder n = n ∷ inside n
-
--- how many nodes a schema has
-abbrev pub node_count : Node → ℕ
-node_count n = length (preorder n)
-
--- how many several schemas have
-abbrev pub nodes_count : List Node → ℕ
-nodes_count ns = length (flat_map preorder ns)
+-- the same of a node: it comes before its slots
+abbrev pub path_of : (Node → Bool) → Node → Option Path
+path_of test n = if test n then Some [] else first_in (path_in test) (slots_of n)

@@ -1,13 +1,14 @@
-//! Schemas as trees of nodes, and their nodes in order.
+//! Schemas as trees of nodes, and the places of their nodes.
 #![tactic(auto)]
 
-mod copying;
+mod child_slot;
 mod counting;
 mod laws;
 mod node;
 mod schema;
 
+pub use child_slot::ChildSlot;
 pub use counting::count_nodes;
-pub use laws::preorder_opens;
+pub use laws::{places_open, preorder_opens, settings_are_in_force};
 pub use node::{Body, Node, any_node};
 pub use schema::{MAX_NODES, Schema};

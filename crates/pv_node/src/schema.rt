@@ -1,4 +1,3 @@
-use crate::copying::copy_node;
 use crate::node::Node;
 use pv_text::Memory;
 use std::alloc::Global;
@@ -51,13 +50,13 @@ impl Schema {
         self.root.as_ref()
     }
 
-    /// One more owner of the same schema. Where no further owner can be counted, it is a copy.
-    pub fn share(&self, alloc: Global) -> Result<Schema, Memory>
+    /// One more owner of the same schema; want of memory where no further owner can be counted.
+    pub fn share(&self) -> Result<Schema, Memory>
         ensures { IfOk result (λ s. s ≡ self.now) }
     {
         match self.root.clone() {
             Ok(root) => Ok(Schema { root }),
-            Err(_) => Schema::new(alloc, copy_node(alloc, self.root())?),
+            Err(_) => Err(Memory),
         }
     }
 }

@@ -1,5 +1,6 @@
 -- A list that begins with another.
-use Rattle.std.proofs.Common.{◌≡◌, ℕ, List, [], ◌++◌, length, take, sym, ◌∙◌, ap, append-nil, append_assoc}
+use Rattle.std.proofs.Common.{◌≡◌, ℕ, List, [], ◌++◌, length, take, sym, ◌∙◌, ap, append-nil, append_assoc, Result, Ok, Err}
+use Rattle.std.specs.Prelude.{OnErr}
 use Rattle.std.proofs.Math.Seq.{take-append_seam}
 use Rattle.pv_notation.specs.Fronts.{IsFront}
 
@@ -14,5 +15,10 @@ front_past old mid new more e f = record { more = more ++ f.more; is = f.is ∙ 
 
 pub front_cut : (old new : List ℕ) → IsFront old new → take (length old) new ≡ old
 front_cut old new f = ap (take (length old)) f.is ∙ take-append_seam old f.more
+
+-- a writer that stops leaves such a list
+pub stopped : {T E : Type 0} {old new : List ℕ} (r : Result T E) → IsFront old new → OnErr r (IsFront old new)
+stopped (Ok x) f = tt
+stopped (Err e) f = f
 
 pub ruleset fronts = (front_same, front_of, front_past, front_cut)

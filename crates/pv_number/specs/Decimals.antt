@@ -11,11 +11,16 @@ use Rattle.pv_number.specs.declared.decimal.Exponent.{Exponent}
 abbrev pub digits : Decimal → List ℕ
 digits d = d.whole.now ++ d.fraction.now
 
+-- the whole number that an exponent is written as
 abbrev pub exponent_of : Exponent → ℤ
 exponent_of e = signed e.negative (natural e.digits.now)
 
+-- the exact number of the parts
 abbrev pub number_of : Decimal → Number
-number_of d = record { significand = signed d.negative (natural (digits d)); exponent = exponent_of d.exponent -ℤ pos (length d.fraction.now) }
+number_of d = record {
+  significand = signed d.negative (natural (digits d));
+  exponent = exponent_of d.exponent -ℤ pos (length d.fraction.now);
+}
 
 -- the number that n digits form from place s on, where zeros stand behind the last digit
 unfoldable pub run : List ℕ → ℕ → ℕ → ℕ
@@ -26,6 +31,7 @@ run ds s (suc n) = run ds s n * 10 + digit (slice_index_or ds (s + n) 0)
 abbrev pub far : ℕ
 far = 2 ^ 100
 
+-- an exponent, kept between the far ends on both sides
 unfoldable pub capped : ℤ → ℤ
 capped x = int_max (neg_ℤ (pos far)) (int_min x (pos far))
 

@@ -9,4 +9,5 @@ is_i128 (negsuc n) = nat_lt n (2 ^ 127)
 
 -- the integer that stands there, where it fits 128 bits
 unfoldable pub integer : List ℕ → Option ℤ
-integer bs = if is_integer bs && is_i128 (number bs).significand then Some (number bs).significand else None
+integer bs =
+    if is_integer bs && is_i128 (number bs).significand then Some (number bs).significand else None

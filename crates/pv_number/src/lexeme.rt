@@ -75,6 +75,7 @@ impl Lexeme {
         })
     }
 
+    /// A copy of these bytes, where they are a JSON number (RFC 8259, section 6) and nothing else.
     #[tactic(auto, using(crate::proofs::Soundness::is_number_sound, crate::proofs::Completeness::is_number_complete))]
     pub fn from_slice(alloc: Global, b: &[u8]) -> Result<Lexeme, LexemeFault>
         ensures value { IfOk result (λ l. l ≡ b.now) }
@@ -89,6 +90,7 @@ impl Lexeme {
         Lexeme::from_number(alloc, b).map_err(|_| LexemeFault::Memory)
     }
 
+    /// The bytes as they were written.
     #[tactic(auto, using(crate::proofs::Soundness::is_number_sound))]
     pub fn as_slice(&self) -> &[u8]
         ensures value { result.now ≡ self.now }

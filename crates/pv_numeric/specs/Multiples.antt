@@ -5,5 +5,7 @@ use Rattle.std.specs.Prelude.{◌≡◌, ◌==◌, ◌%◌, Bool, if◌then◌el
 abbrev pub IsMultiple : ℤ → ℤ → Type 0
 IsMultiple n m = (k : ℤ) × (n ≡ k *ℤ m)
 
+-- the same by the remainder
 unfoldable pub is_multiple : ℤ → ℤ → Bool
-is_multiple n m = if unsigned_abs m == 0 then unsigned_abs n == 0 else unsigned_abs n % unsigned_abs m == 0
+is_multiple n m =
+    if unsigned_abs m == 0 then unsigned_abs n == 0 else unsigned_abs n % unsigned_abs m == 0

@@ -6,13 +6,15 @@ use Rattle.pv_number.specs.Grammar.{IsSign, SomeDigits}
 use Rattle.pv_number.specs.ExactNumber.{natural, signed}
 use Rattle.pv_numeric.specs.NumericStrings.{is_zero}
 
+-- each group is one digit or more
 abbrev pub AllGroups : List (List ℕ) → Type 0
 AllGroups [] = Unit {0}
 AllGroups (ds ∷ dss) = SomeDigits ds × AllGroups dss
 
 -- nothing, or a point and any number of zeros
 abbrev pub IsZeroFraction : List ℕ → Type 0
-IsZeroFraction t = (t ≡ []) ⊎ ((zeros : List ℕ) × (t ≡ 46 ∷ zeros) × IsTrue (list_all is_zero zeros))
+IsZeroFraction t =
+    (t ≡ []) ⊎ ((zeros : List ℕ) × (t ≡ 46 ∷ zeros) × IsTrue (list_all is_zero zeros))
 
 -- a sign or none, groups of digits with an underscore between each two, and a fraction of zeros
 pub record IsNumeral (text : List ℕ) (n : ℤ) : Type 0 where

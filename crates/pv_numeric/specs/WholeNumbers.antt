@@ -19,9 +19,12 @@ times_ten_to m (negsuc e) = quotient m (10 ^ (e + 1))
 abbrev pub whole_by : ℤ → Whole
 whole_by n = if is_i128 n then Fits n else TooBig
 
+-- a whole number, or that there is none
 abbrev pub whole_or_fraction : Option ℤ → Whole
 whole_or_fraction (Some n) = whole_by n
 whole_or_fraction None = Fraction
 
+-- what the spelling of a number is
 unfoldable pub whole_of : List ℕ → Whole
-whole_of lexeme = whole_or_fraction (times_ten_to (number lexeme).significand (number lexeme).exponent)
+whole_of lexeme =
+    whole_or_fraction (times_ten_to (number lexeme).significand (number lexeme).exponent)

@@ -1,4 +1,4 @@
 pub mod Absent
-pub mod Openings
+pub mod Searching
 pub mod Placed
 pub mod Tables

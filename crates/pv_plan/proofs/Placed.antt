@@ -2,118 +2,135 @@
 use Rattle.std.proofs.Common.{◌≡◌, ℕ, zero, suc, ◌+◌, ◌≤◌, List, [], ◌∷◌, ◌++◌, map, length, drop, Option, Some, None, slice_get, unwrap_or, is_some, true≢false, refl, ap, sym, ◌∙◌, arith}
 use Rattle.std.specs.List.{flat_map}
 use Rattle.std.proofs.Math.Seq.{drop-append_seam}
-use Rattle.std.proofs.lemmas.List.{append_assoc}
+use Rattle.std.proofs.lemmas.List.{append_assoc, append-nil}
 use Rattle.std.proofs.lemmas.Grind.{flat_map-append}
+use Rattle.pv_rules.specs.Settings.{plain}
 use Rattle.pv_node.specs.declared.Node.{Node}
-use Rattle.pv_node.specs.declared.Body.{Body}
-use Rattle.pv_node.specs.declared.Body.TheOpen.{Body-F}
-use Rattle.pv_node.specs.Preorder.{preorder, body_of, parts, parts_at, node_count}
+use Rattle.pv_node.specs.Places.{Path, Slot, Place, place_at, places, places_at, places_in, root_place, slots_of}
+use Rattle.pv_node.specs.Preorder.{node_count, count_at}
 use Rattle.pv_node.proofs.Openings.{opens}
-use Rattle.pv_plan.proofs.Absent.{alone}
-use Rattle.pv_plan.specs.Records.{Stands, places, slots_at}
-use Rattle.pv_node.specs.Absent.{any, or_any}
-use Rattle.pv_plan.specs.Layout.{numbers, record_at, table_from, table_of}
+use Rattle.pv_node.proofs.Counts.{count_placed}
+use Rattle.pv_plan.proofs.Absent.{no_slots}
+use Rattle.pv_plan.specs.Records.{Stands, all_places, any_place, place_under, child_at}
+use Rattle.pv_plan.specs.Layout.{number_of, numbers, record_at, table_from, table_of}
 
-abbrev all_of : List Node → List Node
-all_of = flat_map preorder
+-- a place and those inside it
+abbrev whole : Place → List Place
+whole q = q ∷ flat_map (places_in q.path q.settings) (slots_of q.node)
 
-more : (m : Node) (ns : List Node) → all_of (m ∷ ns) ≡ m ∷ all_of (parts m ++ ns)
-more m ns = ap (λ p. p ++ all_of ns) (opens m) ∙ ap (λ p. m ∷ p) (sym (flat_map-append preorder (parts m) ns))
+abbrev all_of : List Place → List Place
+all_of = flat_map whole
 
--- after a node of a forest comes all that is inside it
-forest : (k : ℕ) (ns : List Node) (i : ℕ) (n : Node) → length (all_of ns) ≤ k → slice_get (all_of ns) i ≡ Some n
-    → (rest : List Node) × (drop i (all_of ns) ≡ preorder n ++ rest)
-forest k [] i n l e = absurd (true≢false (sym (ap is_some e)))
-forest zero (m ∷ ns) i n l e = absurd (let s = ap length (more m ns) in omega (arith, s, l))
-forest (suc k) (m ∷ ns) zero n l e =
-    let here : m ≡ n = ap (λ o. unwrap_or o m) (sym (ap (λ xs. slice_get xs 0) (more m ns)) ∙ e) in
-    (all_of ns, ap (λ x. preorder x ++ all_of ns) here)
-forest (suc k) (m ∷ ns) (suc j) n l e =
-    let s = ap length (more m ns) in
-    let ih = forest k (parts m ++ ns) j n (omega (arith, s, l)) (sym (ap (λ xs. slice_get xs (suc j)) (more m ns)) ∙ e) in
-    (ih.0, ap (drop (suc j)) (more m ns) ∙ ih.1)
+-- the places of the child schemas that are written in slots of a place
+abbrev kid : Place → Path → Option Node → List Place
+kid q p None = []
+kid q p (Some n) = place_at (q.path ++ p) n q.settings ∷ []
 
-head : (all : List Node) (at : ℕ) (n : Node) (rest : List Node) → drop at all ≡ n ∷ rest → slice_get all at ≡ Some n
-head [] zero n rest e = absurd (let l = ap length e in omega (arith, l))
-head [] (suc at) n rest e = absurd (let l = ap length e in omega (arith, l))
-head (x ∷ all) zero n rest e = ap (λ xs. slice_get xs 0) e
-head (x ∷ all) (suc at) n rest e = head all at n rest e
+abbrev kids : Place → List (Slot Node) → List Place
+kids q [] = []
+kids q (slot ∷ ss) = kid q slot.path slot.node ++ kids q ss
 
-abbrev the_empty : List Node
+inside_one : (q : Place) (p : Path) (o : Option Node) → places_at (q.path ++ p) q.settings o ≡ all_of (kid q p o)
+inside_one q p None = refl
+inside_one q p (Some n) = opens (q.path ++ p) n q.settings ∙ sym (append-nil (whole (place_at (q.path ++ p) n q.settings)))
+
+inside_all : (q : Place) (ss : List (Slot Node)) → flat_map (places_in q.path q.settings) ss ≡ all_of (kids q ss)
+inside_all q [] = refl
+inside_all q (slot ∷ ss) =
+    ap (λ ps. ps ++ flat_map (places_in q.path q.settings) ss) (inside_one q slot.path slot.node)
+    ∙ ap (λ ps. all_of (kid q slot.path slot.node) ++ ps) (inside_all q ss)
+    ∙ sym (flat_map-append whole (kid q slot.path slot.node) (kids q ss))
+
+more : (q : Place) (qs : List Place) → all_of (q ∷ qs) ≡ q ∷ all_of (kids q (slots_of q.node) ++ qs)
+more q qs =
+    ap (λ ps. q ∷ (ps ++ all_of qs)) (inside_all q (slots_of q.node))
+    ∙ ap (λ ps. q ∷ ps) (sym (flat_map-append whole (kids q (slots_of q.node)) qs))
+
+-- after a place of a forest comes all that is inside it
+forest : (k : ℕ) (qs : List Place) (i : ℕ) (q : Place) → length (all_of qs) ≤ k → slice_get (all_of qs) i ≡ Some q
+    → (rest : List Place) × (drop i (all_of qs) ≡ whole q ++ rest)
+forest k [] i q l e = absurd (true≢false (sym (ap is_some e)))
+forest zero (m ∷ qs) i q l e = absurd (let s = ap length (more m qs) in omega (arith, s, l))
+forest (suc k) (m ∷ qs) zero q l e =
+    let here : m ≡ q = ap (λ o. unwrap_or o m) (sym (ap (λ xs. slice_get xs 0) (more m qs)) ∙ e) in
+    (all_of qs, ap (λ x. whole x ++ all_of qs) here)
+forest (suc k) (m ∷ qs) (suc j) q l e =
+    let s = ap length (more m qs) in
+    let ih = forest k (kids m (slots_of m.node) ++ qs) j q (omega (arith, s, l)) (sym (ap (λ xs. slice_get xs (suc j)) (more m qs)) ∙ e) in
+    (ih.0, ap (drop (suc j)) (more m qs) ∙ ih.1)
+
+head : (all : List Place) (at : ℕ) (q : Place) (rest : List Place) → drop at all ≡ q ∷ rest → slice_get all at ≡ Some q
+head [] zero q rest e = absurd (let l = ap length e in omega (arith, l))
+head [] (suc at) q rest e = absurd (let l = ap length e in omega (arith, l))
+head (x ∷ all) zero q rest e = ap (λ xs. slice_get xs 0) e
+head (x ∷ all) (suc at) q rest e = head all at q rest e
+
+abbrev the_empty : List Place
 the_empty = []
 
 drop_nil : (n : ℕ) → drop n (the_empty) ≡ the_empty
 drop_nil zero = refl
 drop_nil (suc n) = refl
 
-drop_plus : (i k : ℕ) (xs : List Node) → drop (i + k) xs ≡ drop k (drop i xs)
+drop_plus : (i k : ℕ) (xs : List Place) → drop (i + k) xs ≡ drop k (drop i xs)
 drop_plus zero k xs = let same : 0 + k ≡ k = omega arith in ap (λ n. drop n xs) same
 drop_plus (suc i) k [] = drop_nil (suc i + k) ∙ sym (drop_nil k)
 drop_plus (suc i) k (x ∷ xs) = let same : suc i + k ≡ suc (i + k) = omega arith in ap (λ n. drop n (x ∷ xs)) same ∙ drop_plus i k xs
 
-past : (all : List Node) (at : ℕ) (ns rest : List Node) → drop at all ≡ ns ++ rest → drop (at + length ns) all ≡ rest
-past all at ns rest e = drop_plus at (length ns) all ∙ ap (drop (length ns)) e ∙ drop-append_seam ns rest
+past : (all : List Place) (at : ℕ) (ps rest : List Place) → drop at all ≡ ps ++ rest → drop (at + length ps) all ≡ rest
+past all at ps rest e = drop_plus at (length ps) all ∙ ap (drop (length ps)) e ∙ drop-append_seam ps rest
 
--- the child schemas that are written in some places
-abbrev written : List (Option Node) → List Node
-written [] = []
-written (None ∷ slots) = written slots
-written (Some n ∷ slots) = n ∷ written slots
+module _ (all : List Place) (last : ℕ) (absent : slice_get all last ≡ Some any_place) (q : Place) where
+  -- the number of a child schema leads to its place, and behind it come the others
+  leads : (at : ℕ) (p : Path) (o : Option Node) (rest : List Place) → drop at all ≡ all_of (kid q p o) ++ rest
+      → (slice_get all (number_of last at o) ≡ Some (place_under q p o)) × (drop (at + count_at o) all ≡ rest)
+  leads at p None rest e = (absent, let none : at + 0 ≡ at = omega arith in ap (λ k. drop k all) none ∙ e)
+  leads at p (Some n) rest e =
+      let here = place_at (q.path ++ p) n q.settings in
+      let alone : drop at all ≡ whole here ++ rest = e ∙ ap (λ ps. ps ++ rest) (append-nil (whole here)) in
+      let size : length (whole here) ≡ node_count n = sym (ap length (opens (q.path ++ p) n q.settings)) ∙ count_placed (q.path ++ p) q.settings n in
+      (head all at here _ alone, sym (ap (λ k. drop (at + k) all) size) ∙ past all at (whole here) rest alone)
 
-written_all : (ns : List Node) → written (map Some ns) ≡ ns
-written_all [] = refl
-written_all (n ∷ ns) = ap (λ all. n ∷ all) (written_all ns)
+  following : (at : ℕ) (ss : List (Slot Node)) (rest : List Place) → drop at all ≡ all_of (kids q ss) ++ rest
+      → map (slice_get all) (numbers last at ss) ≡ map Some (map (child_at q) ss)
+  following at [] rest e = refl
+  following at (slot ∷ ss) rest e =
+      let apart = flat_map-append whole (kid q slot.path slot.node) (kids q ss) in
+      let split = e ∙ ap (λ ps. ps ++ rest) apart ∙ append_assoc (all_of (kid q slot.path slot.node)) (all_of (kids q ss)) rest in
+      let here = leads at slot.path slot.node (all_of (kids q ss) ++ rest) split in
+      ap (λ o. o ∷ map (slice_get all) (numbers last (at + count_at slot.node) ss)) here.0
+      ∙ ap (λ os. Some (child_at q slot) ∷ os) (following (at + count_at slot.node) ss rest here.1)
 
-parts_written : (b : Body-F Body Node) → written (slots_at b) ≡ parts_at b
-parts_written (Body-F.Scalar r) = refl
-parts_written (Body-F.Sequence r None) = refl
-parts_written (Body-F.Sequence r (Some n)) = refl
-parts_written (Body-F.Tuple r ns) = written_all ns
-parts_written (Body-F.Dict r None None) = refl
-parts_written (Body-F.Dict r None (Some m)) = refl
-parts_written (Body-F.Dict r (Some n) None) = refl
-parts_written (Body-F.Dict r (Some n) (Some m)) = refl
-parts_written (Body-F.Nullable n) = refl
-
--- numbers by sizes lead to the nodes that are written, and the last number to that of an absent one
-following : (all : List Node) (last at : ℕ) (slots : List (Option Node)) (rest : List Node) → slice_get all last ≡ Some any
-    → drop at all ≡ all_of (written slots) ++ rest → map (slice_get all) (numbers last at slots) ≡ map Some (map or_any slots)
-following all last at [] rest absent e = refl
-following all last at (None ∷ slots) rest absent e =
-    ap (λ x. x ∷ map (slice_get all) (numbers last at slots)) absent ∙ ap (λ xs. Some any ∷ xs) (following all last at slots rest absent e)
-following all last at (Some m ∷ slots) rest absent e =
-    let ns = written slots in
-    let here = head all at m (all_of (parts m ++ ns) ++ rest) (e ∙ ap (λ p. p ++ rest) (more m ns)) in
-    let next = past all at (preorder m) (all_of ns ++ rest) (e ∙ append_assoc (preorder m) (all_of ns) rest) in
-    ap (λ x. x ∷ map (slice_get all) (numbers last (at + node_count m) slots)) here ∙ ap (λ xs. Some m ∷ xs) (following all last (at + node_count m) slots rest absent next)
-
-numbered : (last at : ℕ) (ns : List Node) (i : ℕ) (n : Node) → slice_get ns i ≡ Some n → slice_get (table_from last at ns) i ≡ Some (record_at last (at + i) n)
+numbered : (root : Node) (last at : ℕ) (ps : List Place) (i : ℕ) (q : Place) → slice_get ps i ≡ Some q → slice_get (table_from root last at ps) i ≡ Some (record_at root last (at + i) q)
 unfolding table_from
-numbered last at [] i n e = absurd (true≢false (sym (ap is_some e)))
-numbered last at (m ∷ ns) zero n e =
-    let here : m ≡ n = ap (λ o. unwrap_or o m) e in
-    let same : at ≡ at + 0 = omega arith in ap (λ x. Some (record_at last at x)) here ∙ ap (λ k. Some (record_at last k n)) same
-numbered last at (m ∷ ns) (suc i) n e =
-    let same : at + 1 + i ≡ at + suc i = omega arith in numbered last (at + 1) ns i n e ∙ ap (λ k. Some (record_at last k n)) same
+numbered root last at [] i q e = absurd (true≢false (sym (ap is_some e)))
+numbered root last at (m ∷ ps) zero q e =
+    let here : m ≡ q = ap (λ o. unwrap_or o m) e in
+    let same : at ≡ at + 0 = omega arith in ap (λ x. Some (record_at root last at x)) here ∙ ap (λ k. Some (record_at root last k q)) same
+numbered root last at (m ∷ ps) (suc i) q e =
+    let same : at + 1 + i ≡ at + suc i = omega arith in numbered root last (at + 1) ps i q e ∙ ap (λ k. Some (record_at root last k q)) same
 
 module _ (root : Node) where
-  two : all_of (root ∷ any ∷ []) ≡ places root
-  two = ap (λ p. preorder root ++ (p ++ [])) alone
+  alone : whole any_place ≡ any_place ∷ []
+  alone = ap (λ ss. any_place ∷ flat_map (places_in [] plain) ss) no_slots
 
-  absent : slice_get (places root) (node_count root) ≡ Some any
-  absent = head (places root) (node_count root) any [] (drop-append_seam (preorder root) (any ∷ []))
+  two : all_of (root_place root ∷ any_place ∷ []) ≡ all_places root
+  two = ap (λ ps. ps ++ (whole any_place ++ [])) (sym (opens [] root plain)) ∙ ap (λ ps. places root ++ (ps ++ [])) alone
+
+  absent_is : slice_get (all_places root) (node_count root) ≡ Some any_place
+  unfolding node_count
+  absent_is = head (all_places root) (length (places root)) any_place [] (drop-append_seam (places root) (any_place ∷ []))
 
   pub stands : Stands root (table_of root)
   unfolding Stands table_of
-  stands i n e =
-      let all = all_of (root ∷ any ∷ []) in
-      let at = forest (length all) (root ∷ any ∷ []) i n (omega arith) (ap (λ xs. slice_get xs i) two ∙ e) in
-      let here : drop i (places root) ≡ n ∷ (all_of (parts n) ++ at.0) = ap (drop i) (sym two) ∙ at.1 ∙ ap (λ p. p ++ at.0) (opens n) in
-      let next = past (places root) i (n ∷ []) (all_of (parts n) ++ at.0) here in
-      let slots = slots_at (body_of n) in
-      let inside = next ∙ ap (λ ns. all_of ns ++ at.0) (sym (parts_written (body_of n))) in
+  stands i q e =
+      let all = all_of (root_place root ∷ any_place ∷ []) in
+      let at = forest (length all) (root_place root ∷ any_place ∷ []) i q (omega arith) (ap (λ xs. slice_get xs i) two ∙ e) in
+      let here : drop i (all_places root) ≡ whole q ++ at.0 = ap (drop i) (sym two) ∙ at.1 in
+      let next = past (all_places root) i (q ∷ []) (flat_map (places_in q.path q.settings) (slots_of q.node) ++ at.0) here in
+      let inside = next ∙ ap (λ ps. ps ++ at.0) (inside_all q (slots_of q.node)) in
       let same : 0 + i ≡ i = omega arith in (
-        record_at (node_count root) i n,
-        numbered (node_count root) 0 (places root) i n e ∙ ap (λ k. Some (record_at (node_count root) k n)) same,
-        record { op = refl; children = following (places root) (node_count root) (i + 1) slots at.0 absent inside; strict = refl; validate_default = refl },
+        record_at root (node_count root) i q,
+        numbered root (node_count root) 0 (all_places root) i q e ∙ ap (λ k. Some (record_at root (node_count root) k q)) same,
+        record { op = refl; children = following (all_places root) (node_count root) absent_is q (i + 1) (slots_of q.node) at.0 inside; strict = refl; validate_default = refl },
       )

@@ -1,152 +1,179 @@
 -- Tables grow at their ends.
-use Rattle.std.proofs.Common.{◌≡◌, ℕ, suc, ◌+◌, ◌-◌, ◌<◌, false, List, [], ◌∷◌, ◌++◌, map, length, take, get_or, slice_set, Option, Some, None, Result, Ok, Err, OnOk, refl, ap, sym, ◌∙◌, arith}
+use Rattle.std.proofs.Common.{◌≡◌, ℕ, zero, suc, ◌+◌, ◌-◌, ◌<◌, false, List, [], ◌∷◌, ◌++◌, length, take, drop, slice_get, slice_set, Option, Some, None, is_some, true≢false, unwrap_or, refl, ap, sym, ◌∙◌, arith}
 use Rattle.std.specs.List.{flat_map}
-use Rattle.std.proofs.lemmas.List.{take_more, flat_map_more, length-append, append-nil, append_assoc, set-append_right}
+use Rattle.std.specs.Option.{option_or}
+use Rattle.std.proofs.lemmas.List.{length-append, append-nil, append_assoc, set-append_right}
 use Rattle.std.proofs.lemmas.Grind.{flat_map-append}
 use Rattle.pv_rules.specs.Settings.{plain}
-use Rattle.pv_rules.specs.declared.GatherRule.{GatherRule}
+use Rattle.pv_rules.specs.declared.Settings.{Settings}
 use Rattle.pv_rules.specs.declared.ScalarRule.TheVariants as rule
 use Rattle.pv_node.specs.declared.Node.{Node}
-use Rattle.pv_node.specs.declared.Body.{Body, out-Body, out-roll-Body}
-use Rattle.pv_node.specs.declared.Body.TheVariants as body
-use Rattle.pv_node.specs.declared.Body.TheVariants.{rolls-Dict}
-use Rattle.pv_node.specs.declared.Body.TheOpen.{Body-F}
-use Rattle.pv_node.specs.Absent.{any}
-use Rattle.pv_node.specs.Preorder.{preorder, body_of, parts, parts_at, optional, node_count, nodes_count}
+use Rattle.pv_node.specs.Places.{Path, Slot, Place, place_at, places, places_at, places_of, places_in, slots_of}
+use Rattle.pv_node.specs.Preorder.{node_count, count_at, slots_count, first_in}
 use Rattle.pv_node.proofs.Openings.{opens}
+use Rattle.pv_node.proofs.Counts.{count_inside, count_first}
 use Rattle.pv_plan.specs.declared.record.Op.TheVariants as op
 use Rattle.pv_plan.specs.declared.record.Record.{Record}
-use Rattle.pv_plan.specs.Records.{places, op_at, slots_at, own_strict}
+use Rattle.pv_plan.specs.Records.{any_place, all_places}
+use Rattle.pv_plan.specs.BadPatterns.{bad_in}
 use Rattle.pv_plan.proofs.Absent.{any_record}
-use Rattle.pv_plan.specs.Layout.{numbers, record_at, table_from, table_of}
+use Rattle.pv_plan.specs.Layout.{number_of, numbers, record_with, record_at, table_from, table_of}
 
--- what follows of the last of several steps
-pub on_ok : {T E P Q : Type 0} (r : Result T E) → (P → Q) → OnOk r P → OnOk r Q
-on_ok (Ok x) f p = f p
-on_ok (Err e) f p = p
+module _ {X : Type 0} where
+  -- a list to the item of a number, and from it on
+  pub take_here : (xs : List X) (i : ℕ) (x : X) → slice_get xs i ≡ Some x → take (i + 1) xs ≡ take i xs ++ x ∷ []
+  take_here [] i x e = absurd (true≢false (sym (ap is_some e)))
+  take_here (y ∷ xs) zero x e = ap (λ z. z ∷ []) (ap (λ o. unwrap_or o y) e)
+  take_here (y ∷ xs) (suc i) x e =
+      let next : suc i + 1 ≡ suc (i + 1) = omega arith in
+      ap (λ k. take k (y ∷ xs)) next ∙ ap (λ zs. y ∷ zs) (take_here xs i x e)
 
-next_part : (all : List Node) (i : ℕ) (x : Node) → i < length all → x ≡ get_or all i x
-    → flat_map preorder (take i all) ++ preorder x ≡ flat_map preorder (take (i + 1) all)
-next_part all i x l here =
-    flat_map_more preorder [] (take i all) x ∙ ap (λ y. flat_map preorder (take i all ++ y ∷ [])) here ∙ ap (flat_map preorder) (sym (take_more all i x l))
+  pub drop_here : (xs : List X) (i : ℕ) (x : X) → slice_get xs i ≡ Some x → drop i xs ≡ x ∷ drop (i + 1) xs
+  drop_here [] i x e = absurd (true≢false (sym (ap is_some e)))
+  drop_here (y ∷ xs) zero x e = ap (λ z. z ∷ xs) (ap (λ o. unwrap_or o y) e)
+  drop_here (y ∷ xs) (suc i) x e =
+      let next : suc i + 1 ≡ suc (i + 1) = omega arith in
+      drop_here xs i x e ∙ sym (ap (λ k. x ∷ drop k (y ∷ xs)) next)
 
-dict_opens : (r : GatherRule) (keys values : Option Node) → out-Body (body.Dict r keys values) ≡ Body-F.Dict r keys values
-dict_opens r keys values = ap out-Body (sym (rolls-Dict r keys values)) ∙ out-roll-Body (Body-F.Dict r keys values)
+  pub take_past : (xs : List X) (i : ℕ) → slice_get xs i ≡ None → take i xs ≡ xs
+  take_past [] zero e = refl
+  take_past [] (suc i) e = refl
+  take_past (x ∷ xs) zero e = absurd (true≢false (ap is_some e))
+  take_past (x ∷ xs) (suc i) e = ap (λ ys. x ∷ ys) (take_past xs i e)
 
-module _ (last : ℕ) where
-  length-table : (at : ℕ) (ns : List Node) → length (table_from last at ns) ≡ length ns
+  pub drop_past : (xs : List X) (i : ℕ) → slice_get xs i ≡ None → drop i xs ≡ []
+  drop_past [] zero e = refl
+  drop_past [] (suc i) e = refl
+  drop_past (x ∷ xs) zero e = absurd (true≢false (ap is_some e))
+  drop_past (x ∷ xs) (suc i) e = drop_past xs i e
+
+  -- the first behind some others
+  pub get_behind : (xs : List X) (x : X) (ys : List X) → slice_get (xs ++ x ∷ ys) (length xs) ≡ Some x
+  get_behind [] x ys = refl
+  get_behind (y ∷ xs) x ys = get_behind xs x ys
+
+-- past a slot without a bad pattern
+pub first_more : (ss : List (Slot Node)) (i : ℕ) (slot : Slot Node) (whole : Option Path) → slice_get ss i ≡ Some slot → bad_in slot ≡ None
+    → first_in bad_in (drop i ss) ≡ whole → first_in bad_in (drop (i + 1) ss) ≡ whole
+first_more ss i slot whole here none e =
+    sym (ap (λ o. option_or o (first_in bad_in (drop (i + 1) ss))) none) ∙ sym (ap (first_in bad_in) (drop_here ss i slot here)) ∙ e
+
+pub first_past : (ss : List (Slot Node)) (i : ℕ) → slice_get ss i ≡ None → first_in bad_in (drop i ss) ≡ first_in bad_in ss → first_in bad_in ss ≡ None
+first_past ss i past e = sym e ∙ ap (first_in bad_in) (drop_past ss i past)
+
+module _ (root : Node) (last : ℕ) where
+  length-table : (at : ℕ) (ps : List Place) → length (table_from root last at ps) ≡ length ps
   unfolding table_from
   length-table at [] = refl
-  length-table at (n ∷ ns) = ap suc (length-table (at + 1) ns)
+  length-table at (p ∷ ps) = ap suc (length-table (at + 1) ps)
 
-  table-append : (at : ℕ) (ns ms : List Node) → table_from last at (ns ++ ms) ≡ table_from last at ns ++ table_from last (at + length ns) ms
+  pub table-append : (at : ℕ) (ps qs : List Place) → table_from root last at (ps ++ qs) ≡ table_from root last at ps ++ table_from root last (at + length ps) qs
   unfolding table_from
-  table-append at [] ms = let none : at ≡ at + 0 = omega arith in ap (λ k. table_from last k ms) none
-  table-append at (n ∷ ns) ms =
-      let same : at + 1 + length ns ≡ at + suc (length ns) = omega arith in
-      ap (λ rs. record_at last at n ∷ rs) (table-append (at + 1) ns ms ∙ ap (λ k. table_from last (at + 1) ns ++ table_from last k ms) same)
+  table-append at [] qs = let none : at ≡ at + 0 = omega arith in ap (λ k. table_from root last k qs) none
+  table-append at (p ∷ ps) qs =
+      let same : at + 1 + length ps ≡ at + suc (length ps) = omega arith in
+      ap (λ rs. record_at root last at p ∷ rs) (table-append (at + 1) ps qs ∙ ap (λ k. table_from root last (at + 1) ps ++ table_from root last k qs) same)
 
-  pub length_laid : (old table : List Record) (ns : List Node) → table ≡ old ++ table_from last (length old) ns → length table ≡ length old + length ns
-  length_laid old table ns e = ap length e ∙ length-append old (table_from last (length old) ns) ∙ ap (λ k. length old + k) (length-table (length old) ns)
+  length_laid : (old table : List Record) (ps : List Place) → table ≡ old ++ table_from root last (length old) ps → length table ≡ length old + length ps
+  length_laid old table ps e = ap length e ∙ length-append old (table_from root last (length old) ps) ∙ ap (λ k. length old + k) (length-table (length old) ps)
 
   -- two parts, one after the other
-  joined : (old table new : List Record) (ns ms : List Node) → table ≡ old ++ table_from last (length old) ns → new ≡ table ++ table_from last (length table) ms
-      → new ≡ old ++ table_from last (length old) (ns ++ ms)
-  joined old table new ns ms e f =
-      f ∙ ap (λ k. table ++ table_from last k ms) (length_laid old table ns e) ∙ ap (λ t. t ++ table_from last (length old + length ns) ms) e
-      ∙ append_assoc old (table_from last (length old) ns) _ ∙ ap (λ rs. old ++ rs) (sym (table-append (length old) ns ms))
+  joined : (old table new : List Record) (ps qs : List Place) → table ≡ old ++ table_from root last (length old) ps → new ≡ table ++ table_from root last (length table) qs
+      → new ≡ old ++ table_from root last (length old) (ps ++ qs)
+  joined old table new ps qs e f =
+      f ∙ ap (λ k. table ++ table_from root last k qs) (length_laid old table ps e) ∙ ap (λ t. t ++ table_from root last (length old + length ps) qs) e
+      ∙ append_assoc old (table_from root last (length old) ps) _ ∙ ap (λ rs. old ++ rs) (sym (table-append (length old) ps qs))
 
-  pub laid_more : (old table new : List Record) (all : List Node) (i : ℕ) (x : Node) → i < length all → x ≡ get_or all i x
-      → table ≡ old ++ table_from last (length old) (flat_map preorder (take i all)) → new ≡ table ++ table_from last (length table) (preorder x)
-      → new ≡ old ++ table_from last (length old) (flat_map preorder (take (i + 1) all))
-  laid_more old table new all i x l here e f =
-      joined old table new (flat_map preorder (take i all)) (preorder x) e f
-      ∙ ap (λ ns. old ++ table_from last (length old) ns) (next_part all i x l here)
+  -- one more slot
+  pub laid_more : (p : Path) (s : Settings) (old table new : List Record) (ss : List (Slot Node)) (i : ℕ) (slot : Slot Node) → slice_get ss i ≡ Some slot
+      → table ≡ old ++ table_from root last (length old) (flat_map (places_in p s) (take i ss)) → new ≡ table ++ table_from root last (length table) (places_in p s slot)
+      → new ≡ old ++ table_from root last (length old) (flat_map (places_in p s) (take (i + 1) ss))
+  laid_more p s old table new ss i slot here e f =
+      let more : flat_map (places_in p s) (take i ss) ++ places_in p s slot ≡ flat_map (places_in p s) (take (i + 1) ss) =
+      ap (λ qs. flat_map (places_in p s) (take i ss) ++ qs) (sym (append-nil (places_in p s slot)))
+      ∙ sym (flat_map-append (places_in p s) (take i ss) (slot ∷ [])) ∙ sym (ap (flat_map (places_in p s)) (take_here ss i slot here)) in
+      joined old table new (flat_map (places_in p s) (take i ss)) (places_in p s slot) e f
+      ∙ ap (λ ps. old ++ table_from root last (length old) ps) more
 
-  -- a record that is set once what follows it is laid
-  filled : (old mid table new : List Record) (r s : Record) (ns : List Node) → mid ≡ old ++ r ∷ [] → table ≡ mid ++ table_from last (length mid) ns → new ≡ slice_set table (length old) s
-      → new ≡ old ++ s ∷ table_from last (length old + 1) ns
-  filled old mid table new r s ns e f g =
-      let size : length mid ≡ length old + 1 = ap length e ∙ length-append old (r ∷ []) in
-      let whole : table ≡ old ++ r ∷ table_from last (length old + 1) ns =
-      f ∙ ap (λ k. mid ++ table_from last k ns) size ∙ ap (λ t. t ++ table_from last (length old + 1) ns) e ∙ append_assoc old (r ∷ []) _ in
-      let here : length old - length old ≡ 0 = omega arith in
-      g ∙ ap (λ t. slice_set t (length old) s) whole ∙ set-append_right old _ (length old) (length old) s refl (omega arith)
-      ∙ ap (λ k. old ++ slice_set (r ∷ table_from last (length old + 1) ns) k s) here
+  pub laid_all : (p : Path) (s : Settings) (old table : List Record) (ss : List (Slot Node)) (i : ℕ) → slice_get ss i ≡ None
+      → table ≡ old ++ table_from root last (length old) (flat_map (places_in p s) (take i ss)) → table ≡ old ++ table_from root last (length old) (flat_map (places_in p s) ss)
+  laid_all p s old table ss i past e = e ∙ ap (λ xs. old ++ table_from root last (length old) (flat_map (places_in p s) xs)) (take_past ss i past)
 
-  -- a node and all that is inside it
-  pub laid : (old mid table new : List Record) (at : ℕ) (r : Record) (n : Node) (none cs : List ℕ) → at ≡ length old
-      → mid ≡ old ++ r ∷ [] → table ≡ mid ++ table_from last (length mid) (flat_map preorder (parts n)) → none ≡ [] → cs ≡ none ++ numbers last (length mid) (slots_at (body_of n))
-      → new ≡ slice_set table at (record { op = op_at (body_of n); children = cs; strict = own_strict n; validate_default = false })
-      → new ≡ old ++ table_from last (length old) (preorder n)
+  numbers_push : (at : ℕ) (ss : List (Slot Node)) (slot : Slot Node) → numbers last at (ss ++ slot ∷ []) ≡ numbers last at ss ++ number_of last (at + slots_count ss) slot.node ∷ []
+  numbers_push at [] slot = let none : at ≡ at + slots_count [] = omega arith in ap (λ k. number_of last k slot.node ∷ []) none
+  numbers_push at (x ∷ ss) slot =
+      let size = count_first x ss in
+      let same : at + count_at x.node + slots_count ss ≡ at + slots_count (x ∷ ss) = omega (arith, size) in
+      ap (λ ks. number_of last at x.node ∷ ks) (numbers_push (at + count_at x.node) ss slot ∙ ap (λ k. numbers last (at + count_at x.node) ss ++ number_of last k slot.node ∷ []) same)
+
+  pub numbers_more : (s : Settings) (old table : List Record) (start some new : List ℕ) (ss : List (Slot Node)) (i : ℕ) (slot : Slot Node) → slice_get ss i ≡ Some slot
+      → table ≡ old ++ table_from root last (length old) (flat_map (places_in [] s) (take i ss))
+      → some ≡ start ++ numbers last (length old) (take i ss) → new ≡ some ++ number_of last (length table) slot.node ∷ []
+      → new ≡ start ++ numbers last (length old) (take (i + 1) ss)
+  numbers_more s old table start some new ss i slot here t f g =
+      let before = numbers last (length old) (take i ss) in
+      let size : length table ≡ length old + slots_count (take i ss) = length_laid old table _ t ∙ ap (λ k. length old + k) (count_inside [] s (take i ss)) in
+      g ∙ ap (λ ks. ks ++ number_of last (length table) slot.node ∷ []) f ∙ append_assoc start before (number_of last (length table) slot.node ∷ [])
+      ∙ ap (λ k. start ++ (before ++ number_of last k slot.node ∷ [])) size
+      ∙ ap (λ ks. start ++ ks) (sym (numbers_push (length old) (take i ss) slot))
+      ∙ sym (ap (λ xs. start ++ numbers last (length old) xs) (take_here ss i slot here))
+
+  pub numbers_all : (at : ℕ) (start all : List ℕ) (ss : List (Slot Node)) (i : ℕ) → slice_get ss i ≡ None → all ≡ start ++ numbers last at (take i ss) → all ≡ start ++ numbers last at ss
+  numbers_all at start all ss i past e = e ∙ ap (λ xs. start ++ numbers last at xs) (take_past ss i past)
+
+  -- in a slot with nothing
+  pub laid_none : (p : Path) (s : Settings) (old : List Record) (slot : Slot Node) → slot.node ≡ None → old ≡ old ++ table_from root last (length old) (places_in p s slot)
   unfolding table_from
-  laid old mid table new at r n none cs place e f empty num g =
-      let size : length mid ≡ length old + 1 = ap length e ∙ length-append old (r ∷ []) in
-      let with : List ℕ → Record = λ ks. record { op = op_at (body_of n); children = ks; strict = own_strict n; validate_default = false } in
-      let inner = flat_map preorder (parts n) in
-      filled old mid table new r (with cs) inner e f (g ∙ ap (λ k. slice_set table k (with cs)) place)
-      ∙ ap (λ ks. old ++ with ks ∷ table_from last (length old + 1) inner) (num ∙ ap (λ ks. ks ++ numbers last (length mid) (slots_at (body_of n))) empty ∙ ap (λ k. numbers last k (slots_at (body_of n))) size)
-      ∙ ap (λ ns. old ++ table_from last (length old) ns) (sym (opens n))
+  laid_none p s old slot none = sym (append-nil old) ∙ sym (ap (λ o. old ++ table_from root last (length old) (places_at (p ++ slot.path) s o)) none)
 
-  numbers_push : (at : ℕ) (ns : List Node) (n : Node) → numbers last at (map Some (ns ++ n ∷ [])) ≡ numbers last at (map Some ns) ++ (at + nodes_count ns) ∷ []
-  numbers_push at [] n = ap (λ k. k ∷ []) (omega arith)
-  numbers_push at (m ∷ ns) n =
-      let size = length-append (preorder m) (flat_map preorder ns) in
-      let same : at + node_count m + nodes_count ns ≡ at + length (preorder m ++ flat_map preorder ns) = omega (arith, size) in
-      ap (λ ks. at ∷ ks) (numbers_push (at + node_count m) ns n ∙ ap (λ k. numbers last (at + node_count m) (map Some ns) ++ k ∷ []) same)
+  -- the record of a node is there while what is inside it is laid
+  pub later : (old mid table : List Record) (at : ℕ) (r : Record) (ps : List Place) → at ≡ length old → mid ≡ old ++ r ∷ [] → table ≡ mid ++ table_from root last (length mid) ps
+      → at < length table
+  later old mid table at r ps place e f =
+      let size = ap length e ∙ length-append old (r ∷ []) in
+      let all = length_laid mid table ps f in
+      omega (arith, place, size, all)
 
-  pub numbers_more : (at size : ℕ) (start old new : List ℕ) (all : List Node) (i : ℕ) (x : Node) → i < length all → x ≡ get_or all i x
-      → size ≡ at + nodes_count (take i all) → old ≡ start ++ numbers last at (map Some (take i all)) → new ≡ old ++ size ∷ []
-      → new ≡ start ++ numbers last at (map Some (take (i + 1) all))
-  numbers_more at size start old new all i x l here e f g =
-      let before = numbers last at (map Some (take i all)) in
-      g ∙ ap (λ ps. ps ++ size ∷ []) f ∙ append_assoc start before (size ∷ [])
-      ∙ ap (λ k. start ++ (before ++ k ∷ [])) e ∙ ap (λ ps. start ++ ps) (sym (numbers_push at (take i all) x))
-      ∙ ap (λ y. start ++ numbers last at (map Some (take i all ++ y ∷ []))) here ∙ ap (λ ns. start ++ numbers last at (map Some ns)) (sym (take_more all i x l))
-
-  two_numbers : (at next : ℕ) (keys values : Option Node) → next ≡ at + nodes_count (optional keys)
-      → numbers last at (keys ∷ []) ++ numbers last next (values ∷ []) ≡ numbers last at (keys ∷ values ∷ [])
-  two_numbers at next None values e =
-      let same : at + nodes_count (optional None) ≡ at = omega arith in
-      ap (λ k. last ∷ numbers last k (values ∷ [])) (e ∙ same)
-  two_numbers at next (Some n) values e =
-      let size : nodes_count (optional (Some n)) ≡ node_count n = ap length (append-nil (preorder n)) in
-      ap (λ k. at ∷ numbers last k (values ∷ [])) (e ∙ ap (λ k. at + k) size)
-
-  -- the child schemas of a dict
-  pub dict_laid : (old table new : List Record) (b : Body) (r : GatherRule) (keys values : Option Node) → b ≡ body.Dict r keys values
-      → table ≡ old ++ table_from last (length old) (flat_map preorder (optional keys)) → new ≡ table ++ table_from last (length table) (flat_map preorder (optional values))
-      → new ≡ old ++ table_from last (length old) (flat_map preorder (parts_at (out-Body b)))
-  dict_laid old table new b r keys values is e f =
-      joined old table new (flat_map preorder (optional keys)) (flat_map preorder (optional values)) e f
-      ∙ ap (λ ns. old ++ table_from last (length old) ns) (sym (flat_map-append preorder (optional keys) (optional values)))
-      ∙ ap (λ x. old ++ table_from last (length old) (flat_map preorder (parts_at x))) (sym (ap out-Body is ∙ dict_opens r keys values))
-
-  pub dict_numbered : (old table : List Record) (start mid new : List ℕ) (b : Body) (r : GatherRule) (keys values : Option Node) → b ≡ body.Dict r keys values
-      → table ≡ old ++ table_from last (length old) (flat_map preorder (optional keys))
-      → mid ≡ start ++ numbers last (length old) (keys ∷ []) → new ≡ mid ++ numbers last (length table) (values ∷ [])
-      → new ≡ start ++ numbers last (length old) (slots_at (out-Body b))
-  dict_numbered old table start mid new b r keys values is e f g =
-      let first = numbers last (length old) (keys ∷ []) in
-      let second = numbers last (length table) (values ∷ []) in
-      g ∙ ap (λ ks. ks ++ second) f ∙ append_assoc start first second
-      ∙ ap (λ ks. start ++ ks) (two_numbers (length old) (length table) keys values (length_laid old table (flat_map preorder (optional keys)) e))
-      ∙ ap (λ x. start ++ numbers last (length old) (slots_at x)) (sym (ap out-Body is ∙ dict_opens r keys values))
+  -- a record that is completed once what follows it is laid
+  pub laid : (p : Path) (s : Settings) (n : Node) (old mid table new : List Record) (at : ℕ) (none cs : List ℕ) → at ≡ length old
+      → mid ≡ old ++ record_with root (length old) (place_at p n s) [] ∷ []
+      → table ≡ mid ++ table_from root last (length mid) (flat_map (places_in p s) (slots_of n)) → none ≡ [] → cs ≡ none ++ numbers last (length mid) (slots_of n)
+      → ((r : Record) → slice_get table at ≡ Some r → new ≡ slice_set table at (record { op = r.op; children = cs; strict = r.strict; validate_default = r.validate_default }))
+      → new ≡ old ++ table_from root last (length old) (places_of p n s)
+  unfolding table_from
+  laid p s n old mid table new at none cs place e f empty num g =
+      let here = place_at p n s in
+      let inner = flat_map (places_in p s) (slots_of n) in
+      let bare = record_with root (length old) here [] in
+      let size : length mid ≡ length old + 1 = ap length e ∙ length-append old (bare ∷ []) in
+      let rest = table_from root last (length old + 1) inner in
+      let whole : table ≡ old ++ bare ∷ rest =
+      f ∙ ap (λ k. mid ++ table_from root last k inner) size ∙ ap (λ t. t ++ rest) e ∙ append_assoc old (bare ∷ []) _ in
+      let found : slice_get table at ≡ Some bare = ap (slice_get table) place ∙ ap (λ t. slice_get t (length old)) whole ∙ get_behind old bare rest in
+      let same : length old - length old ≡ 0 = omega arith in
+      let numbered : cs ≡ numbers last (length old + 1) (slots_of n) = num ∙ ap (λ ks. ks ++ numbers last (length mid) (slots_of n)) empty ∙ ap (λ k. numbers last k (slots_of n)) size in
+      g bare found
+      ∙ ap (λ k. slice_set table k (record_with root (length old) here cs)) place
+      ∙ ap (λ t. slice_set t (length old) (record_with root (length old) here cs)) whole
+      ∙ set-append_right old _ (length old) (length old) (record_with root (length old) here cs) refl (omega arith)
+      ∙ ap (λ k. old ++ slice_set (bare ∷ rest) k (record_with root (length old) here cs)) same
+      ∙ ap (λ ks. old ++ record_with root (length old) here ks ∷ rest) numbered
+      ∙ ap (λ ps. old ++ table_from root last (length old) ps) (sym (opens p n s))
 
 length-table_of : (root : Node) → length (table_of root) ≡ node_count root + 1
-unfolding table_of
-length-table_of root = length-table (node_count root) 0 (places root) ∙ length-append (preorder root) (any ∷ [])
+unfolding table_of node_count
+length-table_of root = length-table root (node_count root) 0 (all_places root) ∙ length-append (places root) (any_place ∷ [])
 
 pub counted : (root seen : Node) (table : List Record) → table ≡ table_of seen → seen ≡ root → length table ≡ node_count root + 1
 counted root seen table e f = ap length e ∙ length-table_of seen ∙ ap (λ n. node_count n + 1) f
 
--- the records of all nodes, and one more
-pub finished : (root : Node) (mid table new : List Record) (last : ℕ) (r : Record) → mid ≡ [] → last ≡ node_count root
-    → table ≡ mid ++ table_from last (length mid) (preorder root)
+-- the records of all places, and one more
+pub finished : (root : Node) (mid table new : List Record) (last : ℕ) (s : Settings) (r : Record) → mid ≡ [] → last ≡ node_count root → s ≡ plain
+    → table ≡ mid ++ table_from root last (length mid) (places_of [] root s)
     → r ≡ record { op = op.Scalar (rule.Any, plain); children = []; strict = false; validate_default = false } → new ≡ table ++ r ∷ [] → new ≡ table_of root
-unfolding table_of table_from
-finished root mid table new last r none count e f g =
-    let nodes = preorder root in
-    g ∙ ap (λ t. t ++ r ∷ []) (e ∙ ap (λ m. m ++ table_from last (length m) nodes) none ∙ ap (λ k. table_from k 0 nodes) count)
-    ∙ ap (λ x. table_from (length nodes) 0 nodes ++ x ∷ []) (f ∙ sym (any_record (length nodes) (0 + length nodes)))
-    ∙ sym (table-append (length nodes) 0 nodes (any ∷ []))
+unfolding table_of table_from node_count
+finished root mid table new last s r none count bare e f g =
+    let nodes = places root in
+    g ∙ ap (λ t. t ++ r ∷ []) (e ∙ ap (λ m. m ++ table_from root last (length m) (places_of [] root s)) none ∙ ap (λ t. table_from root last 0 (places_of [] root t)) bare ∙ ap (λ k. table_from root k 0 nodes) count)
+    ∙ ap (λ x. table_from root (length nodes) 0 nodes ++ x ∷ []) (f ∙ sym (any_record root (length nodes) (0 + length nodes)))
+    ∙ sym (table-append root (length nodes) 0 nodes (any_place ∷ []))

@@ -1,6 +1,6 @@
 -- What building a plan says of the first bad pattern.
 use Rattle.std.specs.Prelude.{◌≡◌, ◌++◌, Option, None, Some, Result, Ok, Err}
-use Rattle.pv_plan.specs.BadPatterns.{Path}
+use Rattle.pv_node.specs.Places.{Path}
 use Rattle.pv_plan.specs.declared.faults.BuildFault.{BuildFault}
 use Rattle.pv_plan.specs.declared.faults.BuildFault.TheVariants as fault
 

@@ -1,31 +1,43 @@
--- The table of a schema: record by record, in preorder, and one more for absent schemas.
-use Rattle.std.specs.Prelude.{ℕ, ◌+◌, false, List, [], ◌∷◌, Option, Some, None}
+-- The table of a schema: record by record, in the order of its places, and one more for absent
+-- schemas.
+use Rattle.std.specs.Prelude.{ℕ, ◌+◌, List, [], ◌∷◌, Option, Some, None}
 use Rattle.pv_node.specs.declared.Node.{Node}
-use Rattle.pv_node.specs.Preorder.{body_of, node_count}
-use Rattle.pv_plan.specs.Records.{op_at, slots_at, own_strict, places}
+use Rattle.pv_node.specs.Places.{Slot, Place, slots_of}
+use Rattle.pv_node.specs.Preorder.{count_at, node_count}
+use Rattle.pv_plan.specs.Records.{op_at, own_strict, all_places}
 use Rattle.pv_plan.specs.declared.record.Record.{Record}
 
--- The numbers of child schemas that stand one after another, the first at this number. An absent
--- one has the number of the last record.
-abbrev pub numbers : ℕ → ℕ → List (Option Node) → List ℕ
-numbers last at [] = []
-numbers last at (None ∷ slots) = last ∷ numbers last at slots
-numbers last at (Some n ∷ slots) = at ∷ numbers last (at + node_count n) slots
+-- the number of a child schema that stands at this number, or that of the last record for an absent
+-- one
+abbrev pub number_of : ℕ → ℕ → Option Node → ℕ
+number_of last at None = last
+number_of last at (Some n) = at
 
--- the record of a node that has this number
-abbrev pub record_at : ℕ → ℕ → Node → Record
-record_at last at n = record {
-  op = op_at (body_of n);
-  children = numbers last (at + 1) (slots_at (body_of n));
-  strict = own_strict n;
-  validate_default = false;
+-- the numbers of child schemas that stand one after another, the first at this number
+abbrev pub numbers : ℕ → ℕ → List (Slot Node) → List ℕ
+numbers last at [] = []
+numbers last at (slot ∷ ss) = number_of last at slot.node ∷ numbers last (at + count_at slot.node) ss
+
+-- the record of a place, by its number and by the numbers of its children
+abbrev pub record_with : Node → ℕ → Place → List ℕ → Record
+record_with root at place children = record {
+  op = op_at root place at;
+  children = children;
+  strict = own_strict place;
+  validate_default = place.settings.validate_default;
 }
 
--- the records of nodes that stand one after another, the first at this number
-unfoldable pub table_from : ℕ → ℕ → List Node → List Record
-table_from last at [] = []
-table_from last at (n ∷ ns) = record_at last at n ∷ table_from last (at + 1) ns
+-- the record of a place that has this number; its children stand behind it
+abbrev pub record_at : Node → ℕ → ℕ → Place → Record
+record_at root last at place =
+    record_with root at place (numbers last (at + 1) (slots_of place.node))
+
+-- the records of places that stand one after another, the first at this number
+unfoldable pub table_from : Node → ℕ → ℕ → List Place → List Record
+table_from root last at [] = []
+table_from root last at (place ∷ ps) =
+    record_at root last at place ∷ table_from root last (at + 1) ps
 
 -- the records of a whole schema
 unfoldable pub table_of : Node → List Record
-table_of root = table_from (node_count root) 0 (places root)
+table_of root = table_from root (node_count root) 0 (all_places root)

@@ -2,4 +2,3 @@ pub mod Records
 pub mod Layout
 pub mod BadPatterns
 pub mod Faults
-pub mod Searching

@@ -1,51 +1,62 @@
--- Records that stand for the nodes of a schema.
-use Rattle.std.specs.Prelude.{◌≡◌, ℕ, Bool, false, List, [], ◌∷◌, ◌++◌, map, slice_get, Option, Some, unwrap_or}
+-- Records that stand for the places of a schema.
+use Rattle.std.specs.Prelude.{◌≡◌, ℕ, Bool, List, [], ◌∷◌, ◌++◌, map, slice_get, Option, Some, None, unwrap_or}
 use Rattle.pv_rules.specs.Settings.{plain}
-use Rattle.pv_node.specs.Absent.{any, or_any}
+use Rattle.pv_rules.specs.declared.Settings.{Settings}
+use Rattle.pv_node.specs.Absent.{any}
 use Rattle.pv_node.specs.declared.Node.{Node, out-Node}
 use Rattle.pv_node.specs.declared.Body.TheOpen.{Body-F}
-use Rattle.pv_node.specs.Preorder.{body_of, preorder}
+use Rattle.pv_node.specs.Places.{Path, Slot, Place, place_at, places, body_of, slots_of}
 use Rattle.pv_plan.specs.declared.record.Op.{Op}
 use Rattle.pv_plan.specs.declared.record.Op.TheVariants as op
 use Rattle.pv_plan.specs.declared.record.Record.{Record}
 
--- what a node does, without its children
-abbrev pub op_at : {X Y : Type 0} → Body-F X Y → Op
-op_at (Body-F.Scalar r) = op.Scalar (r, plain)
-op_at (Body-F.Sequence r items) = op.Gather r
-op_at (Body-F.Tuple r items) = op.Gather r
-op_at (Body-F.Dict r keys values) = op.Gather r
-op_at (Body-F.Nullable inner) = op.Nullable
+-- what a node does without its children, by the settings in force in it
+abbrev pub op_of : {X Y : Type 0} → Settings → Body-F X Y → Op
+op_of s (Body-F.Scalar r) = op.Scalar (r, s)
+op_of s (Body-F.Sequence r items) = op.Gather r
+op_of s (Body-F.Tuple r items) = op.Gather r
+op_of s (Body-F.Dict r keys values) = op.Gather r
+op_of s (Body-F.Nullable inner) = op.Nullable
 
--- the places for child schemas; nothing is written in some
-abbrev pub slots_at : {X Y : Type 0} → Body-F X Y → List (Option Y)
-slots_at (Body-F.Scalar r) = []
-slots_at (Body-F.Sequence r items) = items ∷ []
-slots_at (Body-F.Tuple r items) = map Some items
-slots_at (Body-F.Dict r keys values) = keys ∷ values ∷ []
-slots_at (Body-F.Nullable inner) = Some inner ∷ []
+-- the same of a place of a schema, whose record has this number
+abbrev pub op_at : Node → Place → ℕ → Op
+op_at root place number = op_of place.settings (body_of place.node)
 
--- the nodes that a node enters
-abbrev pub children_of : Node → List Node
-children_of n = map or_any (slots_at (body_of n))
+-- whether a node is strict where the run does not say: by its key, else by the settings in force
+abbrev pub own_strict : Place → Bool
+own_strict place = unwrap_or (out-Node place.node).strict place.settings.strict
 
--- whether a node is strict by itself; nothing configures it
-abbrev pub own_strict : Node → Bool
-own_strict n = unwrap_or (out-Node n).strict false
+-- the place that stands for absent schemas
+abbrev pub any_place : Place
+any_place = record { path = []; node = any; settings = plain }
 
--- the nodes of a schema, and one more that stands for an absent one
-abbrev pub places : Node → List Node
-places root = preorder root ++ any ∷ []
+-- the place at the end of a path from a place, or the one that stands for an absent schema
+abbrev pub place_under : Place → Path → Option Node → Place
+place_under place p None = any_place
+place_under place p (Some n) = place_at (place.path ++ p) n place.settings
 
--- the record does what the node does, and its numbers are those of the nodes that the node enters
-pub record Fits (root : Node) (n : Node) (r : Record) : Type 0 where
-  pub op : r.op ≡ op_at (body_of n)
-  pub children : map (slice_get (places root)) r.children ≡ map Some (children_of n)
-  pub strict : r.strict ≡ own_strict n
-  pub validate_default : r.validate_default ≡ false
+-- the place of a slot
+abbrev pub child_at : Place → Slot Node → Place
+child_at place slot = place_under place slot.path slot.node
 
--- each record stands for the node of its number
+-- the places that a place of a schema leads to
+abbrev pub children_of : Node → Place → List Place
+children_of root place = map (child_at place) (slots_of place.node)
+
+-- the places of a schema, and one more that stands for absent schemas
+abbrev pub all_places : Node → List Place
+all_places root = places root ++ any_place ∷ []
+
+-- the record of this number does what the place does, and its numbers are those of the places that
+-- the place leads to
+pub record Fits (root : Node) (place : Place) (number : ℕ) (r : Record) : Type 0 where
+  pub op : r.op ≡ op_at root place number
+  pub children : map (slice_get (all_places root)) r.children ≡ map Some (children_of root place)
+  pub strict : r.strict ≡ own_strict place
+  pub validate_default : r.validate_default ≡ place.settings.validate_default
+
+-- each record stands for the place of its number
 unfoldable pub Stands : Node → List Record → Type 0
 Stands root table =
-    (i : ℕ) (n : Node) → slice_get (places root) i ≡ Some n
-    → (r : Record) × (slice_get table i ≡ Some r) × Fits root n r
+    (i : ℕ) (place : Place) → slice_get (all_places root) i ≡ Some place
+    → (r : Record) × (slice_get table i ≡ Some r) × Fits root place i r

@@ -8,7 +8,7 @@ ghost use Rattle.pv_plan.specs.BadPatterns.{bad_pattern};
 ghost use Rattle.pv_plan.specs.Faults.{Finds};
 
 use crate::faults::BuildFault;
-use crate::laying::lay;
+use crate::laying::Laying;
 use crate::plan::Plan;
 use crate::record::{Op, Record};
 use pv_node::{MAX_NODES, Node, Schema, count_nodes};
@@ -34,12 +34,14 @@ fn any(alloc: Global) -> Result<Record, Memory>
 }
 
 /// Puts the record that stands for absent schemas at the end.
-fn push_any(alloc: Global, table: &mut Items<Record>) -> Result<(), Memory>
-    ensures { OnOk result (table.new ≡ table.old ++ record { op = Op.Scalar (ScalarRule.Any, plain); children = []; strict = false; validate_default = false } ∷ []) }
+fn push_any(alloc: Global, table: &mut Vec<Record>) -> Result<(), Memory>
+    ensures { OnOk result (table.new.items ≡ table.old.items ++ record { op = Op.Scalar (ScalarRule.Any, plain); children = []; strict = false; validate_default = false } ∷ []) }
 {
     let record = any(alloc)?;
-    table.push(record)?;
-    Ok(())
+    match table.push(record) {
+        Ok(()) => Ok(()),
+        Err(_) => Err(Memory),
+    }
 }
 
 fn table(alloc: Global, root: &Node) -> Result<Items<Record>, BuildFault>
@@ -48,10 +50,11 @@ fn table(alloc: Global, root: &Node) -> Result<Items<Record>, BuildFault>
     ensures pattern { Finds result (bad_pattern root.now) }
 {
     let last = count_nodes(root)? as u32;
-    let mut table = Items::new(alloc);
-    lay(alloc, &mut table, last, root)?;
+    let mut table = Vec::new(alloc);
+    let laying = Laying { alloc, root, last };
+    laying.lay(&mut table, root, &Settings::plain())?;
     push_any(alloc, &mut table)?;
-    Ok(table)
+    Ok(Items::from_vec(table))
 }
 
 /// The plan of a schema, or the first of its patterns that cannot be read.
@@ -60,6 +63,6 @@ pub fn build(alloc: Global, schema: &Schema) -> Result<Plan, BuildFault>
     ensures pattern { Finds result (bad_pattern schema.now) }
 {
     let table = table(alloc, schema.root())?;
-    let schema = schema.share(alloc)?;
+    let schema = schema.share()?;
     Ok(Plan { table, schema })
 }

@@ -1,15 +1,18 @@
 //! Why there is no plan, and where that stands.
 
-ghost use Rattle.std.specs.Prelude.{◌≡◌, [], ◌∷◌, codes};
+ghost use Rattle.std.specs.Prelude.{◌≡◌, [], ◌∷◌, Some};
 ghost use Rattle.pv_tree.specs.declared.Step.TheVariants.{Name, Index};
+ghost use Rattle.pv_node.specs.Lending.{lent};
+ghost use Rattle.pv_plan.specs.BadPatterns.{to_pattern};
 ghost use Rattle.pv_plan.specs.Faults.{FailsBy, IsBehind};
 
+use pv_node::ChildSlot;
 use pv_text::{Memory, Text};
 use pv_tree::{Loc, Step};
 use std::alloc::{AllocError, Global};
 
-/// Why a schema has no plan: the first of its patterns, in preorder, that cannot be read, or want
-/// of memory.
+/// Why a schema has no plan: the first of its patterns, in the order of its nodes, that cannot be
+/// read, or want of memory.
 #[derive(Drop)]
 pub enum BuildFault {
     BadPattern { path: Loc },
@@ -38,7 +41,7 @@ impl From<AllocError> for BuildFault {
 
 /// The pattern of a node is bad.
 pub(crate) fn bad_pattern(alloc: Global) -> BuildFault
-    ensures { FailsBy result (Some (Name (codes "pattern") ∷ [])) }
+    ensures { FailsBy result (Some to_pattern) }
 {
     under_key(
         alloc,
@@ -60,7 +63,7 @@ fn under(mut path: Loc, step: Step) -> BuildFault
 }
 
 /// What went wrong under a key.
-pub(crate) fn under_key(alloc: Global, fault: BuildFault, key: &str) -> BuildFault
+fn under_key(alloc: Global, fault: BuildFault, key: &str) -> BuildFault
     ensures { IsBehind (Name key.now ∷ []) fault result }
 {
     match fault {
@@ -72,14 +75,23 @@ pub(crate) fn under_key(alloc: Global, fault: BuildFault, key: &str) -> BuildFau
     }
 }
 
-/// What went wrong in a position of a tuple.
-pub(crate) fn under_position(alloc: Global, fault: BuildFault, position: u64) -> BuildFault
-    ensures { IsBehind (Name (codes "items_schema") ∷ Index position ∷ []) fault result }
+/// What went wrong at a position.
+fn under_position(fault: BuildFault, position: u64) -> BuildFault
+    ensures { IsBehind (Index position ∷ []) fault result }
 {
     match fault {
-        BuildFault::BadPattern { path } => {
-            under_key(alloc, under(path, Step::Index(position)), "items_schema")
-        }
+        BuildFault::BadPattern { path } => under(path, Step::Index(position)),
         BuildFault::Memory => BuildFault::Memory,
+    }
+}
+
+/// What went wrong in a slot.
+#[tactic(auto, using(crate::proofs::Searching::behind_both))]
+pub(crate) fn under_slot(alloc: Global, fault: BuildFault, slot: &ChildSlot<'_>) -> BuildFault
+    ensures { IsBehind (lent slot.now).path fault result }
+{
+    match slot.position {
+        Some(position) => under_key(alloc, under_position(fault, position), slot.key),
+        None => under_key(alloc, fault, slot.key),
     }
 }

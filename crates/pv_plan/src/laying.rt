@@ -1,22 +1,23 @@
-//! The records of nodes, laid one after another.
+//! The records of places, laid one after another.
 
-ghost use Rattle.std.specs.Prelude.{◌≡◌, ◌<◌, false, [], ◌∷◌, ◌++◌, length, map, slice_set, codes, IfOk, OnOk, None};
+ghost use Rattle.std.specs.Prelude.{◌≡◌, ◌<◌, [], ◌∷◌, ◌++◌, length, slice_get, slice_set, IfOk, OnOk, None, Some};
 ghost use Rattle.std.specs.List.{flat_map};
-ghost use Rattle.pv_tree.specs.declared.Step.TheVariants.{Name, Index};
-ghost use Rattle.pv_node.specs.declared.Body.{out-Body};
-ghost use Rattle.pv_node.specs.Preorder.{preorder, body_of, parts_at, optional};
-ghost use Rattle.pv_plan.specs.Records.{op_at, slots_at, own_strict};
-ghost use Rattle.pv_plan.specs.Layout.{numbers, table_from};
+ghost use Rattle.pv_node.specs.Places.{Path, place_at, places_in, places_of, slots_of};
+ghost use Rattle.pv_node.specs.Preorder.{first_in};
+ghost use Rattle.pv_node.specs.Lending.{lent};
+ghost use Rattle.pv_plan.specs.declared.record.Record.{Record as RecordValue};
+ghost use Rattle.pv_plan.specs.Layout.{number_of, numbers, record_with, table_from};
 ghost use Rattle.pv_plan.specs.BadPatterns as spec;
+ghost use Rattle.pv_plan.specs.BadPatterns.{bad_in, bad_itself, has_bad_pattern};
 ghost use Rattle.pv_plan.specs.Faults.{Finds};
-ghost use Rattle.pv_plan.specs.Searching.{in_itself, in_children};
 
-use crate::faults::{BuildFault, under_key, under_position};
+use crate::faults::{BuildFault, under_slot};
 use crate::operations::operation;
-use crate::record::{Op, Record};
-use pv_node::{Body, Node};
+use crate::record::Record;
+use pv_node::{ChildSlot, Node};
+use pv_rules::Settings;
 use pv_text::Memory;
-use sqlite_items::{Boxed, Items};
+use sqlite_items::Items;
 use std::alloc::Global;
 
 /// The number of the record at this place. A schema has few enough nodes for each to have one; a
@@ -31,46 +32,21 @@ pub(crate) fn number(place: usize) -> Result<u32, Memory>
     }
 }
 
-/// A place for the record of a node whose children are still to be laid. Big values stay out of
-/// the frames of the recursion, here and in [`settle`].
-#[inline(never)]
-fn reserve(alloc: Global, table: &mut Items<Record>) -> Result<(), Memory>
-    ensures { OnOk result (table.new ≡ table.old ++ record { op = Op.Nullable; children = []; strict = false; validate_default = false } ∷ []) }
+/// How many records there are.
+fn size(table: &Vec<Record>) -> usize
+    ensures { result ≡ length table.now.items }
 {
-    table.push(Record {
-        op: Op::Nullable,
-        children: Items::new(alloc),
-        strict: false,
-        validate_default: false,
-    })?;
-    Ok(())
+    table.len()
 }
 
-/// Puts the record of a node in its place.
+/// Puts the children of a record in it.
 #[inline(never)]
-fn settle(
-    alloc: Global,
-    table: &mut Items<Record>,
-    at: usize,
-    node: &Node,
-    children: Items<u32>,
-) -> Result<(), BuildFault>
-    requires { at < length table.old }
-    ensures table { OnOk result (table.new ≡ slice_set table.old at (record { op = op_at (body_of node.now); children = children; strict = own_strict node.now; validate_default = false })) }
-    ensures pattern { Finds result (in_itself (body_of node.now)) }
+fn settle(table: &mut Vec<Record>, at: usize, children: Items<u32>)
+    requires { at < length table.old.items }
+    ensures { (r : RecordValue) → slice_get table.old.items at ≡ Some r →
+        table.new.items ≡ slice_set table.old.items at (record { op = r.op; children = children; strict = r.strict; validate_default = r.validate_default }) }
 {
-    let op = operation(alloc, &node.body)?;
-    let strict = node.strict.unwrap_or(false);
-    table.set(
-        at,
-        Record {
-            op,
-            children,
-            strict,
-            validate_default: false,
-        },
-    );
-    Ok(())
+    table[at].children = children;
 }
 
 /// Adds a number at the end.
@@ -84,142 +60,110 @@ fn add(all: &mut Items<u32>, number: u32) -> Result<(), BuildFault>
     }
 }
 
-/// Lays a node and all inside it, and gives its number. `last` is the number of what stands for
-/// absent schemas.
-#[cycle(lay)]
-#[tactic(auto, using(crate::proofs::Openings::inner_fails, crate::proofs::Openings::itself_alone))]
-pub(crate) fn lay(
-    alloc: Global,
-    table: &mut Items<Record>,
-    last: u32,
-    node: &Node,
-) -> Result<u32, BuildFault>
-    ensures table { OnOk result (table.new ≡ table.old ++ table_from last (length table.old) (preorder node.now)) }
-    ensures number { IfOk result (λ n. n ≡ length table.old) }
-    ensures pattern { Finds result (spec.bad_pattern node.now) }
-{
-    let at = table.len();
-    let own = number(at)?;
-    reserve(alloc, table)?;
-    let mut children = Items::new(alloc);
-    lay_children(alloc, table, last, &node.body, &mut children)?;
-    settle(alloc, table, at, node, children)?;
-    Ok(own)
+/// The laying of a schema's records. `last` is the number of the one for absent schemas.
+#[derive(Clone, Copy)]
+pub(crate) struct Laying<'a> {
+    pub(crate) alloc: Global,
+    pub(crate) root: &'a Node,
+    pub(crate) last: u32,
 }
 
-/// Lays the child schemas of a node, and adds their numbers to `all`.
-#[cycle(lay)]
-#[tactic(auto, unfolding(crate::specs::Layout::table_from))]
-fn lay_children(
-    alloc: Global,
-    table: &mut Items<Record>,
-    last: u32,
-    body: &Body,
-    all: &mut Items<u32>,
-) -> Result<(), BuildFault>
-    ensures table { OnOk result (table.new ≡ table.old ++ table_from last (length table.old) (flat_map preorder (parts_at (out-Body body.now)))) }
-    ensures numbers { OnOk result (all.new ≡ all.old ++ numbers last (length table.old) (slots_at (out-Body body.now))) }
-    ensures pattern { Finds result (in_children spec.bad_pattern (out-Body body.now)) }
-{
-    match body {
-        Body::Scalar(_) => Ok(()),
-        Body::Sequence { items_schema, .. } => {
-            lay_slot(alloc, table, last, "items_schema", items_schema, all)
+impl Laying<'_> {
+    /// Lays the record of a node whose children are still to be laid. Big values stay out of the
+    /// frames of the recursion, here and in [`settle`].
+    #[inline(never)]
+    fn reserve(
+        &self,
+        table: &mut Vec<Record>,
+        node: &Node,
+        settings: &Settings,
+    ) -> Result<(), BuildFault>
+        ensures table { OnOk result ((p : Path) → table.new.items ≡ table.old.items
+            ++ record_with self.now.root.now (length table.old.items) (place_at p node.now settings.now) [] ∷ []) }
+        ensures pattern { Finds result (bad_itself (has_bad_pattern node.now)) }
+    {
+        let op = operation(self.alloc, &node.body, settings)?;
+        let strict = node.strict.unwrap_or(settings.strict);
+        match table.push(Record {
+            op,
+            children: Items::new(self.alloc),
+            strict,
+            validate_default: settings.validate_default,
+        }) {
+            Ok(()) => Ok(()),
+            Err(_) => Err(BuildFault::Memory),
         }
-        Body::Tuple { items_schema, .. } => {
-            lay_positions(alloc, table, last, items_schema.as_slice(), all)
+    }
+
+    /// Lays a node and all inside it, and gives its number. Nothing configures a node yet, so that
+    /// the settings in force around it are those in force in it.
+    #[cycle(lay)]
+    #[tactic(auto, using(crate::proofs::Searching::itself_fails, crate::proofs::Searching::inner_fails, crate::proofs::Searching::none_fails))]
+    pub(crate) fn lay(
+        &self,
+        table: &mut Vec<Record>,
+        node: &Node,
+        settings: &Settings,
+    ) -> Result<u32, BuildFault>
+        ensures table { OnOk result ((p : Path) → table.new.items ≡ table.old.items
+            ++ table_from self.now.root.now self.now.last (length table.old.items) (places_of p node.now settings.now)) }
+        ensures number { IfOk result (λ n. n ≡ length table.old.items) }
+        ensures pattern { Finds result (spec.bad_pattern node.now) }
+    {
+        let at = size(table);
+        let own = number(at)?;
+        self.reserve(table, node, settings)?;
+        let mut children = Items::new(self.alloc);
+        self.lay_children(table, node, settings, &mut children)?;
+        settle(table, at, children);
+        Ok(own)
+    }
+
+    /// Lays the child schemas of a node, and adds their numbers to `all`.
+    #[cycle(lay)]
+    fn lay_children(
+        &self,
+        table: &mut Vec<Record>,
+        node: &Node,
+        settings: &Settings,
+        all: &mut Items<u32>,
+    ) -> Result<(), BuildFault>
+        ensures table { OnOk result ((p : Path) → table.new.items ≡ table.old.items
+            ++ table_from self.now.root.now self.now.last (length table.old.items) (flat_map (places_in p settings.now) (slots_of node.now))) }
+        ensures numbers { OnOk result (all.new ≡ all.old ++ numbers self.now.last (length table.old.items) (slots_of node.now)) }
+        ensures pattern { Finds result (first_in bad_in (slots_of node.now)) }
+    {
+        for place in 0..usize::MAX {
+            let Some(slot) = node.slot(place) else {
+                return Ok(());
+            };
+            self.lay_slot(table, &slot, settings, all)?;
         }
-        Body::Dict {
-            keys_schema,
-            values_schema,
-            ..
-        } => {
-            lay_slot(alloc, table, last, "keys_schema", keys_schema, all)?;
-            lay_slot(alloc, table, last, "values_schema", values_schema, all)
+        Err(BuildFault::Memory)
+    }
+
+    /// Lays the child schema of a slot, where there is one, and adds its number to `all`.
+    #[cycle(lay)]
+    #[tactic(auto, using(crate::proofs::Searching::slot_fails))]
+    fn lay_slot(
+        &self,
+        table: &mut Vec<Record>,
+        slot: &ChildSlot<'_>,
+        settings: &Settings,
+        all: &mut Items<u32>,
+    ) -> Result<(), BuildFault>
+        ensures table { OnOk result ((p : Path) → table.new.items ≡ table.old.items
+            ++ table_from self.now.root.now self.now.last (length table.old.items) (places_in p settings.now (lent slot.now))) }
+        ensures number { OnOk result (all.new ≡ all.old ++ number_of self.now.last (length table.old.items) (lent slot.now).node ∷ []) }
+        ensures pattern { Finds result (bad_in (lent slot.now)) }
+    {
+        let Some(node) = slot.node else {
+            add(all, self.last)?;
+            return Ok(());
+        };
+        match self.lay(table, node, settings) {
+            Ok(number) => add(all, number),
+            Err(fault) => Err(under_slot(self.alloc, fault, slot)),
         }
-        Body::Nullable { schema } => { lay_inner(alloc, table, last, "schema", schema.get(), all) }
     }
-}
-
-/// Lays the child schema under a key, where there is one, and adds its number to `all`.
-#[cycle(lay)]
-#[tactic(auto, unfolding(crate::specs::Layout::table_from))]
-fn lay_slot(
-    alloc: Global,
-    table: &mut Items<Record>,
-    last: u32,
-    key: &str,
-    slot: &Option<Boxed<Node>>,
-    all: &mut Items<u32>,
-) -> Result<(), BuildFault>
-    ensures table { OnOk result (table.new ≡ table.old ++ table_from last (length table.old) (flat_map preorder (optional slot.now))) }
-    ensures numbers { OnOk result (all.new ≡ all.old ++ numbers last (length table.old) (slot.now ∷ [])) }
-    ensures pattern { Finds result (spec.in_slot spec.bad_pattern (Name key.now ∷ []) slot.now) }
-{
-    match slot {
-        None => add(all, last),
-        Some(node) => lay_inner(alloc, table, last, key, node.get(), all),
-    }
-}
-
-/// Lays the child schema under a key, and adds its number to `all`.
-#[cycle(lay)]
-#[tactic(auto, unfolding(crate::specs::Layout::table_from))]
-fn lay_inner(
-    alloc: Global,
-    table: &mut Items<Record>,
-    last: u32,
-    key: &str,
-    node: &Node,
-    all: &mut Items<u32>,
-) -> Result<(), BuildFault>
-    ensures table { OnOk result (table.new ≡ table.old ++ table_from last (length table.old) (preorder node.now)) }
-    ensures number { OnOk result (all.new ≡ all.old ++ length table.old ∷ []) }
-    ensures pattern { Finds result (spec.behind (Name key.now ∷ []) (spec.bad_pattern node.now)) }
-{
-    match lay(alloc, table, last, node) {
-        Ok(number) => add(all, number),
-        Err(fault) => Err(under_key(alloc, fault, key)),
-    }
-}
-
-/// Lays the child schema of a position of a tuple, and adds its number to `all`.
-#[cycle(lay)]
-#[tactic(auto, unfolding(crate::specs::Layout::table_from))]
-fn lay_position(
-    alloc: Global,
-    table: &mut Items<Record>,
-    last: u32,
-    position: u64,
-    node: &Node,
-    all: &mut Items<u32>,
-) -> Result<(), BuildFault>
-    ensures table { OnOk result (table.new ≡ table.old ++ table_from last (length table.old) (preorder node.now)) }
-    ensures number { OnOk result (all.new ≡ all.old ++ length table.old ∷ []) }
-    ensures pattern { Finds result (spec.behind (Name (codes "items_schema") ∷ Index position ∷ []) (spec.bad_pattern node.now)) }
-{
-    match lay(alloc, table, last, node) {
-        Ok(number) => add(all, number),
-        Err(fault) => Err(under_position(alloc, fault, position)),
-    }
-}
-
-/// Lays the child schemas of the positions of a tuple, and adds their numbers to `all`.
-#[cycle(lay)]
-#[tactic(auto, unfolding(crate::specs::Layout::table_from))]
-fn lay_positions(
-    alloc: Global,
-    table: &mut Items<Record>,
-    last: u32,
-    nodes: &[Node],
-    all: &mut Items<u32>,
-) -> Result<(), BuildFault>
-    ensures table { OnOk result (table.new ≡ table.old ++ table_from last (length table.old) (flat_map preorder nodes.now)) }
-    ensures numbers { OnOk result (all.new ≡ all.old ++ numbers last (length table.old) (map Some nodes.now)) }
-    ensures pattern { Finds result (spec.in_positions spec.bad_pattern 0 nodes.now) }
-{
-    for (position, node) in nodes.iter().enumerate() {
-        lay_position(alloc, table, last, position as u64, node, all)?;
-    }
-    Ok(())
 }

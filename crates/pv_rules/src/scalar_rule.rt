@@ -61,6 +61,7 @@ pub enum SubType {
     Text,
 }
 
+/// The class of an enum and its members, in the order of the schema.
 #[derive(Drop)]
 pub struct EnumRule {
     pub cls: Text,

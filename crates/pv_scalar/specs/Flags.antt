@@ -1,4 +1,5 @@
--- Trees as flags. A number that is 0 or 1 stands for one, and so do some words, in letters of either case.
+-- Trees as flags. A number that is 0 or 1 stands for one, and so do some words, in letters of
+-- either case.
 use Rattle.std.specs.Prelude.{ℕ, Bool, true, false, ◌||◌, if◌then◌else◌, List, codes, pos, Option, None, Some, Ok, Err}
 use Rattle.std.specs.Ordering.{int_eq}
 use Rattle.std.specs.Str.{str_eq_ignore_ascii_case}
@@ -17,11 +18,19 @@ is_word word text = str_eq_ignore_ascii_case text word
 
 -- a word for true
 unfoldable pub is_truth : List ℕ → Bool
-is_truth text = is_word (codes "true") text || (is_word (codes "t") text || (is_word (codes "yes") text || (is_word (codes "y") text || (is_word (codes "on") text || is_word (codes "1") text))))
+is_truth text =
+    is_word (codes "true") text
+    || (is_word (codes "t") text
+    || (is_word (codes "yes") text
+    || (is_word (codes "y") text || (is_word (codes "on") text || is_word (codes "1") text))))
 
 -- a word for false
 unfoldable pub is_untruth : List ℕ → Bool
-is_untruth text = is_word (codes "false") text || (is_word (codes "f") text || (is_word (codes "no") text || (is_word (codes "n") text || (is_word (codes "off") text || is_word (codes "0") text))))
+is_untruth text =
+    is_word (codes "false") text
+    || (is_word (codes "f") text
+    || (is_word (codes "no") text
+    || (is_word (codes "n") text || (is_word (codes "off") text || is_word (codes "0") text))))
 
 -- the flag that a word stands for
 abbrev pub word_flag : List ℕ → Option Bool
@@ -29,7 +38,8 @@ word_flag text = if is_truth text then Some true else if is_untruth text then So
 
 -- the flag that a whole number stands for
 abbrev pub whole_flag : Whole → Option Bool
-whole_flag (Fits n) = if int_eq n (pos 0) then Some false else if int_eq n (pos 1) then Some true else None
+whole_flag (Fits n) =
+    if int_eq n (pos 0) then Some false else if int_eq n (pos 1) then Some true else None
 whole_flag TooBig = None
 whole_flag Fraction = None
 
@@ -41,7 +51,8 @@ read_flag None = Err kind.BoolParsing
 -- by one level of the tree; the strict column takes flags alone
 abbrev pub flag_at : Bool → Tree-F Tree → Graded Bool
 flag_at strict (Tree-F.Bool b) = Ok (b, Exact)
-flag_at strict (Tree-F.Num lexeme) = by_column strict (read_flag (whole_flag (whole_of lexeme))) (Err kind.BoolType)
+flag_at strict (Tree-F.Num lexeme) =
+    by_column strict (read_flag (whole_flag (whole_of lexeme))) (Err kind.BoolType)
 flag_at strict (Tree-F.Str text) = by_column strict (read_flag (word_flag text)) (Err kind.BoolType)
 flag_at strict Tree-F.Null = Err kind.BoolType
 flag_at strict (Tree-F.Array ts) = Err kind.BoolType

@@ -32,15 +32,19 @@ uuid_in version text = uuid_by version (uuid_of text)
 
 -- before the text is read
 abbrev pub url_length_fault : UrlRule → List ℕ → Option Kind
-url_length_fault rule text = unless rule.max_length (λ bound. nat_le (char_count text) bound) kind.UrlTooLong
+url_length_fault rule text =
+    unless rule.max_length (λ bound. nat_le (char_count text) bound) kind.UrlTooLong
 
 -- the case of letters counts
 abbrev pub scheme_fault : Option (List (List ℕ)) → UrlText → Option Kind
-scheme_fault allowed url = unless allowed (λ names. list_any (λ name. bytes_eq name url.scheme) names) (λ names. kind.UrlScheme (expected_text (map literal.Text names)))
+scheme_fault allowed url =
+    unless allowed (λ names. list_any (λ name. bytes_eq name url.scheme) names)
+    (λ names. kind.UrlScheme (expected_text (map literal.Text names)))
 
 -- the URL that a text is
 abbrev pub url_by : UrlRule → Option UrlText → Graded Value
-url_by rule (Some url) = with_fault (scheme_fault rule.allowed_schemes url) (value.Atom Url url.text, Strict)
+url_by rule (Some url) =
+    with_fault (scheme_fault rule.allowed_schemes url) (value.Atom Url url.text, Strict)
 url_by rule None = Err kind.UrlParsing
 
 -- an answer, unless something is wrong before it

@@ -1,5 +1,6 @@
--- Trees as ints. A number that is written without a point and an exponent is an int by itself. Another number stands for one where it is whole, and so do
--- a flag and a text in which a whole number stands.
+-- Trees as ints. A number that is written without a point and an exponent is an int by itself.
+-- Another number stands for one where it is whole, and so do a flag and a text in which a whole
+-- number stands.
 use Rattle.std.specs.Prelude.{ℕ, Bool, not, if◌then◌else◌, List, ℤ, pos, int_lt, Option, None, Some, Ok, Err}
 use Rattle.pv_number.specs.ExactNumber.{is_integer}
 use Rattle.pv_number.specs.declared.Whole.{Whole}
@@ -41,7 +42,8 @@ flag_int b = if b then pos 1 else pos 0
 abbrev pub int_at : Bool → Tree-F Tree → Graded ℤ
 int_at strict (Tree-F.Num lexeme) = number_int strict lexeme
 int_at strict (Tree-F.Bool b) = by_column strict (Ok (flag_int b, Lax)) (Err kind.IntType)
-int_at strict (Tree-F.Str text) = by_column strict (text_int (numeric_string text)) (Err kind.IntType)
+int_at strict (Tree-F.Str text) =
+    by_column strict (text_int (numeric_string text)) (Err kind.IntType)
 int_at strict Tree-F.Null = Err kind.IntType
 int_at strict (Tree-F.Array ts) = Err kind.IntType
 int_at strict (Tree-F.Object ms) = Err kind.IntType
@@ -68,4 +70,6 @@ lower_fault rule n =
 
 -- the first test that the int does not pass
 unfoldable pub int_fault : IntRule → ℤ → Option Kind
-int_fault rule n = unless rule.multiple_of (λ m. is_multiple n m) kind.MultipleOf orelse upper_fault rule n orelse lower_fault rule n
+int_fault rule n =
+    unless rule.multiple_of (λ m. is_multiple n m) kind.MultipleOf orelse upper_fault rule n
+    orelse lower_fault rule n

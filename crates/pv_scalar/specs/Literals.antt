@@ -1,4 +1,5 @@
--- Values that a schema names, and the trees that are the same: of the same kind and content, where a number has to be written without a point and an exponent.
+-- Values that a schema names, and the trees that are the same: of the same kind and content,
+-- where a number has to be written without a point and an exponent.
 use Rattle.std.specs.Prelude.{ℕ, Bool, true, false, if◌then◌else◌, bytes_eq, List, [], ◌∷◌, ◌++◌, map, codes, Option, None, Some, option_map}
 use Rattle.std.specs.List.{list_any, find}
 use Rattle.std.specs.Fmt.{signed_decimal}

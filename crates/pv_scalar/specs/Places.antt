@@ -26,4 +26,6 @@ pub record KeepsPlaces (places : Places) (values : List Literal) : Type 0 where
 
 -- the place is kept for one more value, if it had none
 abbrev pub NotesPlace : Places → Places → Literal → ℕ → Type 0
-NotesPlace old new value place = (l : Literal) → place_in new l ≡ option_or (place_in old l) (if literal_same value l then Some place else None)
+NotesPlace old new value place =
+    (l : Literal) → place_in new l ≡ option_or (place_in old l)
+    (if literal_same value l then Some place else None)

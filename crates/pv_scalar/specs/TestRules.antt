@@ -8,7 +8,12 @@ use Rattle.pv_scalar.specs.declared.enums.EnumTests.{EnumTests}
 
 -- the rule of tests of a text
 abbrev pub str_rule : StrTests → StrRule
-str_rule tests = record { min_length = tests.min_length; max_length = tests.max_length; pattern = tests.pattern; strip_whitespace = tests.strip_whitespace }
+str_rule tests = record {
+  min_length = tests.min_length;
+  max_length = tests.max_length;
+  pattern = tests.pattern;
+  strip_whitespace = tests.strip_whitespace;
+}
 
 -- the rule of tests of a URL
 abbrev pub url_rule : UrlTests → UrlRule

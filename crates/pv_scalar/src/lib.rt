@@ -18,5 +18,5 @@ mod values;
 
 pub use built::Scalar;
 pub use laws::{ints_of_texts_are_numerals, strict_ints_are_written};
-pub use pv_formats::{Pattern, PatternFault, compile_pattern};
+pub use pv_formats::{Matchers, Pattern, PatternFault, compile_pattern};
 pub use validation::scalar;

@@ -10,7 +10,7 @@ ghost use Rattle.pv_scalar.specs.TestRules.{str_rule};
 
 use crate::answers::Graded;
 use pv_fault::{Grade, Kind};
-use pv_formats::Pattern;
+use pv_formats::{Matchers, Pattern};
 use pv_rules::{BytesRule, Settings};
 use pv_text::{Bytes, Memory, Text};
 use pv_tree::{Tree, Value};
@@ -69,13 +69,18 @@ fn too_long(max_length: Option<u64>, text: &str) -> Option<Kind>
     }
 }
 
-fn mismatch(alloc: Global, pattern: &Option<Pattern>, text: &str) -> Result<Option<Kind>, Memory>
+fn mismatch<'a>(
+    alloc: Global,
+    matchers: &mut Matchers<'a>,
+    pattern: &'a Option<Pattern>,
+    text: &str,
+) -> Result<Option<Kind>, Memory>
     ensures { IfOk result (λ fault. fault ≡ spec.pattern_fault pattern.now text.now) }
 {
     match pattern {
         None => Ok(None),
         Some(pattern) => {
-            if pattern.is_match(alloc, text)? {
+            if matchers.is_match(pattern, text)? {
                 Ok(None)
             } else {
                 Ok(Some(Kind::StringPatternMismatch {
@@ -96,9 +101,10 @@ fn length_fault(tests: &StrTests, settings: &Settings, text: &str) -> Option<Kin
 }
 
 #[tactic(auto, unfolding(crate::specs::Texts::text_fault))]
-fn text_fault(
+fn text_fault<'a>(
     alloc: Global,
-    tests: &StrTests,
+    matchers: &mut Matchers<'a>,
+    tests: &'a StrTests,
     settings: &Settings,
     text: &str,
 ) -> Result<Option<Kind>, Memory>
@@ -106,15 +112,16 @@ fn text_fault(
 {
     match length_fault(tests, settings, text) {
         Some(kind) => Ok(Some(kind)),
-        None => mismatch(alloc, &tests.pattern, text),
+        None => mismatch(alloc, matchers, &tests.pattern, text),
     }
 }
 
 /// A string, without the white space around it where that is asked for.
 #[tactic(auto, unfolding(crate::specs::Scalars::str_answer))]
-pub(crate) fn str_answer(
+pub(crate) fn str_answer<'a>(
     alloc: Global,
-    tests: &StrTests,
+    matchers: &mut Matchers<'a>,
+    tests: &'a StrTests,
     settings: &Settings,
     tree: &Tree,
 ) -> Result<Graded<Value>, Memory>
@@ -127,7 +134,7 @@ pub(crate) fn str_answer(
         .strip_whitespace
         .unwrap_or(settings.str_strip_whitespace);
     let text = stripped(alloc, strip, text)?;
-    match text_fault(alloc, tests, settings, text.as_str())? {
+    match text_fault(alloc, matchers, tests, settings, text.as_str())? {
         Some(kind) => Ok(Err(kind)),
         None => Ok(Ok((Value::Str(text), Grade::Exact))),
     }

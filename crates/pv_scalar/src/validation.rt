@@ -12,6 +12,7 @@ use crate::formats::{url_answer, uuid_answer};
 use crate::integers::{int, int_fault};
 use crate::texts::{bytes_answer, str_answer};
 use pv_fault::{Grade, Kind, Outcome};
+use pv_formats::Matchers;
 use pv_rules::{IntRule, Settings};
 use pv_text::Memory;
 use pv_tree::{Tree, Value, plain_value};
@@ -52,9 +53,10 @@ fn int_answer(rule: &IntRule, strict: bool, tree: &Tree) -> Graded<Value>
 }
 
 #[tactic(auto, unfolding(crate::specs::Scalars::answer_of))]
-fn answer(
+fn answer<'a>(
     alloc: Global,
-    body: &Body,
+    matchers: &mut Matchers<'a>,
+    body: &'a Body,
     settings: &Settings,
     strict: bool,
     tree: &Tree,
@@ -66,7 +68,7 @@ fn answer(
         Body::None => Ok(none_answer(tree)),
         Body::Bool => Ok(bool_answer(strict, tree)),
         Body::Int(rule) => Ok(int_answer(rule, strict, tree)),
-        Body::Str(tests) => str_answer(alloc, tests, settings, tree),
+        Body::Str(tests) => str_answer(alloc, matchers, tests, settings, tree),
         Body::Bytes(rule) => bytes_answer(alloc, rule, tree),
         Body::Uuid(version) => uuid_answer(alloc, *version, tree),
         Body::Url(tests) => url_answer(alloc, tests, tree),
@@ -78,9 +80,15 @@ fn answer(
 /// What the scalar gives for a tree: a value with its grade, or one error at the tree itself. Under
 /// `strict`, trees of other kinds do not stand for flags, ints and members.
 #[tactic(auto, unfolding(crate::specs::Scalars::scalar_of))]
-pub fn scalar(alloc: Global, s: &Scalar, strict: bool, t: &Tree) -> Result<Outcome, Memory>
+pub fn scalar<'a>(
+    alloc: Global,
+    matchers: &mut Matchers<'a>,
+    s: &'a Scalar,
+    strict: bool,
+    t: &Tree,
+) -> Result<Outcome, Memory>
     ensures { IfOk result (λ o. o ≡ spec.scalar_of s.now.0 s.now.1 strict t.now) }
 {
-    let answer = answer(alloc, &s.body, &s.settings, strict, t)?;
+    let answer = answer(alloc, matchers, &s.body, &s.settings, strict, t)?;
     outcome(alloc, answer, t)
 }

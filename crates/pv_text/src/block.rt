@@ -42,6 +42,7 @@ impl Block {
         Block::from_vec(Vec::from_slice(alloc, bytes)?)
     }
 
+    /// All bytes of the block.
     pub fn as_slice(&self) -> &[u8]
         ensures value { result.now ≡ self.now }
         ensures small { length self.now < 4294967296 }

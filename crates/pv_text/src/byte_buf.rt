@@ -19,6 +19,7 @@ impl Model for ByteBuf {
 impl ByteBuf {
     ghost use Rattle.std.specs.Prelude.{◌≡◌, ◌==◌, ◌≤◌, [], ◌∷◌, ◌++◌, length, take, OnOk, OnErr};
 
+    /// A buffer without bytes. It takes no memory yet.
     pub fn new(alloc: Global) -> ByteBuf
         ensures { result ≡ [] }
     {
@@ -27,18 +28,21 @@ impl ByteBuf {
         }
     }
 
+    /// How many bytes it holds.
     pub fn len(&self) -> usize
         ensures { result ≡ length self.now }
     {
         self.bytes.len()
     }
 
+    /// Whether it holds no bytes.
     pub fn is_empty(&self) -> bool
         ensures { result ≡ (length self.now == 0) }
     {
         self.bytes.is_empty()
     }
 
+    /// Adds a byte at the end.
     pub fn push(&mut self, byte: u8) -> Result<(), Memory>
         ensures ok { OnOk result (self.new ≡ self.old ++ byte ∷ []) }
         ensures err { OnErr result (self.new ≡ self.old) }
@@ -47,6 +51,7 @@ impl ByteBuf {
         Ok(())
     }
 
+    /// Adds bytes at the end, all of them or none.
     pub fn push_slice(&mut self, b: &[u8]) -> Result<(), Memory>
         ensures ok { OnOk result (self.new ≡ self.old ++ b.now) }
         ensures err { OnErr result (self.new ≡ self.old) }
@@ -55,6 +60,7 @@ impl ByteBuf {
         Ok(())
     }
 
+    /// The bytes in the order in which they came.
     pub fn as_slice(&self) -> &[u8]
         ensures { result.now ≡ self.now }
     {

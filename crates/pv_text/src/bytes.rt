@@ -19,6 +19,7 @@ impl Model for Bytes {
 impl Bytes {
     ghost use Rattle.std.specs.Prelude.{◌≡◌, IfOk};
 
+    /// A copy of these bytes.
     pub fn from_slice(alloc: Global, b: &[u8]) -> Result<Bytes, Memory>
         ensures { IfOk result (λ bytes. bytes ≡ b.now) }
     {
@@ -34,6 +35,7 @@ impl Bytes {
         Bytes { items }
     }
 
+    /// The bytes in their order.
     pub fn as_slice(&self) -> &[u8]
         ensures { result.now ≡ self.now }
     {

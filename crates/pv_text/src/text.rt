@@ -83,6 +83,7 @@ impl Text {
         &self.block.as_slice()[start..start + self.len as usize]
     }
 
+    /// The text itself. Its bytes are not looked at again.
     pub fn as_str(&self) -> &str
         ensures { result.now ≡ self.now }
     {

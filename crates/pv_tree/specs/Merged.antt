@@ -20,4 +20,5 @@ module _ {V : Type 0} where
   -- the value of the last member of this name
   abbrev pub last_value : List (List ℕ × V) → List ℕ → Option V
   last_value [] name = None
-  last_value (m ∷ ms) name = or_else (last_value ms name) (if bytes_eq name m.0 then Some m.1 else None)
+  last_value (m ∷ ms) name =
+      or_else (last_value ms name) (if bytes_eq name m.0 then Some m.1 else None)

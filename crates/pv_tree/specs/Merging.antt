@@ -5,7 +5,7 @@ use Rattle.std.specs.BTreeMap.{BTreeMap, get}
 use Rattle.std.specs.Cmp.Lexicographic.{slice_cmp, nat_list_eq_equiv}
 use Rattle.std.specs.Ordering.{nat_cmp}
 use Rattle.std.specs.List.{position_from, IsDistinct, AllByRecursion}
-use mathlib.Core.Path.{sym, ◌∙◌}
+use mathlib.Core.Path.{◌∙◌}
 use Rattle.pv_tree.specs.Names.{names, HasDistinctNames, Distinct}
 
 -- the order of names, by their bytes
@@ -37,7 +37,8 @@ module _ {V : Type 0} where
   other_by true x name v m ms more a r = a
   other_by false x name v m ms more a r = (a.0, r)
 
-  other : (x name : List ℕ) (v : V) (ms : List (List ℕ × V)) → bytes_eq x name ≡ false → IsOther x ms
+  other : (x name : List ℕ) (v : V) (ms : List (List ℕ × V)) → bytes_eq x name ≡ false
+      → IsOther x ms
       → IsOther x (put ms name v)
   other x name v [] e a = (e, tt)
   other x name v (m ∷ ms) e a =
@@ -56,9 +57,13 @@ module _ {V : Type 0} where
   unfolding IsDistinct
   put_distinct name v [] d = (tt, tt)
   put_distinct name v (m ∷ ms) d = distinct_by (bytes_eq name m.0) name v m ms (put ms name v) d
-      (λ e. (other m.0 name v ms (nat_list_eq_equiv.symm m.0 name ∙ e) d.0, put_distinct name v ms d.1))
+      (λ e. (
+        other m.0 name v ms (nat_list_eq_equiv.symm m.0 name ∙ e) d.0,
+        put_distinct name v ms d.1,
+      ))
 
-  all_distinct : (done ms : List (List ℕ × V)) → HasDistinctNames done → HasDistinctNames (put_all done ms)
+  all_distinct : (done ms : List (List ℕ × V)) → HasDistinctNames done
+      → HasDistinctNames (put_all done ms)
   all_distinct done [] d = d
   all_distinct done (m ∷ ms) d = all_distinct (put done m.0 m.1) ms (put_distinct m.0 m.1 done d)
 

@@ -26,9 +26,12 @@ pub record Distinct (V : Type 0) : Type 0 where
 pub same_distinct : {V : Type 0} (d e : Distinct V) → d.members ≡ e.members → d ≡ e
 same_distinct d e p = λ i. record {
   members = p i;
-  distinct = is_prop→PathP (λ j. HasDistinctNames (p j)) (λ j. IsDistinct-prop bytes_eq (names (p j))) d.distinct e.distinct i;
+  distinct =
+      is_prop→PathP (λ j. HasDistinctNames (p j)) (λ j. IsDistinct-prop bytes_eq (names (p j)))
+      d.distinct e.distinct i;
 }
 
 -- how they are stored, by how their values are
 abbrev pub distinct_code : {V : Type 0} → Coded V → Coded (Distinct V)
-distinct_code c = coded_via (coded_list (coded× (coded_list coded_ℕ) c)) (λ d. d.members) same_distinct
+distinct_code c =
+    coded_via (coded_list (coded× (coded_list coded_ℕ) c)) (λ d. d.members) same_distinct

@@ -1,6 +1,5 @@
 -- What one level of a tree holds, where it is of that kind.
 use Rattle.std.specs.Prelude.{ℕ, Bool, true, false, List, Option, None, Some}
-use Rattle.pv_tree.specs.Names.{Distinct}
 use Rattle.pv_tree.specs.declared.tree.Tree.TheOpen.{Tree-F}
 
 module _ {X : Type 0} where

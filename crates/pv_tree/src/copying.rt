@@ -55,7 +55,11 @@ fn copy_entries(alloc: Global, entries: &[(Value, Value)]) -> Result<Entries, Me
     let mut all = Vec::with_capacity(alloc, entries.len())?;
     for (key, value) in entries {
         let key = key.copy(alloc)?;
-        let value = value.copy(alloc)?;
+        let Ok(value) = value.copy(alloc) else {
+            // One call: a value that goes out of scope here is proved variant by variant.
+            drop(key);
+            return Err(Memory);
+        };
         all.push((key, value))?;
     }
     Ok(Items::from_vec(all))
@@ -66,6 +70,35 @@ fn copy_boxed(alloc: Global, value: &Boxed<Value>) -> Result<Boxed<Value>, Memor
     ensures { IfOk result (λ b. b ≡ value.now) }
 {
     Ok(Boxed::new(alloc, value.get().copy(alloc)?)?)
+}
+
+/// An enum's member with these names, shared, and this value.
+fn enum_of(alloc: Global, cls: &Text, name: &Text, value: Boxed<Value>) -> Result<Value, Memory>
+    ensures { IfOk result (λ v. v ≡ Value.Enum cls.now name.now value) }
+{
+    let cls = cls.share(alloc)?;
+    let name = name.share(alloc)?;
+    Ok(Value::Enum { cls, name, value })
+}
+
+/// A model with this class and these names, shared, and these fields.
+fn model_of(
+    alloc: Global,
+    cls: &Text,
+    set: &Names,
+    fields: Named,
+    extra: Named,
+) -> Result<Value, Memory>
+    ensures { IfOk result (λ v. v ≡ Value.Model cls.now fields set.now extra) }
+{
+    let cls = cls.share(alloc)?;
+    let set = copy_names(alloc, set)?;
+    Ok(Value::Model {
+        cls,
+        fields,
+        set,
+        extra,
+    })
 }
 
 impl Value {
@@ -85,11 +118,9 @@ impl Value {
                 kind: *kind,
                 text: text.share(alloc)?,
             }),
-            Value::Enum { cls, name, value } => Ok(Value::Enum {
-                cls: cls.share(alloc)?,
-                name: name.share(alloc)?,
-                value: copy_boxed(alloc, value)?,
-            }),
+            Value::Enum { cls, name, value } => {
+                enum_of(alloc, cls, name, copy_boxed(alloc, value)?)
+            }
             Value::List(values) => Ok(Value::List(copy_values(alloc, values.as_slice())?)),
             Value::Tuple(values) => Ok(Value::Tuple(copy_values(alloc, values.as_slice())?)),
             Value::Set(values) => Ok(Value::Set(copy_values(alloc, values.as_slice())?)),
@@ -100,12 +131,11 @@ impl Value {
                 fields,
                 set,
                 extra,
-            } => Ok(Value::Model {
-                cls: cls.share(alloc)?,
-                fields: copy_named(alloc, fields)?,
-                set: copy_names(alloc, set)?,
-                extra: copy_named(alloc, extra)?,
-            }),
+            } => {
+                let fields = copy_named(alloc, fields)?;
+                let extra = copy_named(alloc, extra)?;
+                model_of(alloc, cls, set, fields, extra)
+            }
             Value::Root { cls, value } => Ok(Value::Root {
                 cls: cls.share(alloc)?,
                 value: copy_boxed(alloc, value)?,

@@ -7,6 +7,7 @@ mod location;
 mod making;
 mod member_row;
 mod merging;
+mod name_order;
 mod parts;
 mod plain;
 mod row;

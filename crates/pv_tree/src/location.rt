@@ -49,6 +49,7 @@ impl Loc {
     ghost use Rattle.std.specs.Prelude.{◌≡◌, ◌<◌, ◌≤◌, [], ◌∷◌, ◌++◌, length, take, drop, slice_get, IfOk, OnOk, OnErr, OnSome};
     ghost use Rattle.std.specs.Option.{option_copied};
 
+    /// The location without steps.
     pub fn new(alloc: Global) -> Loc
         ensures { result ≡ [] }
     {
@@ -57,6 +58,7 @@ impl Loc {
         }
     }
 
+    /// Adds a step at the end.
     pub fn push(&mut self, step: Step) -> Result<(), Memory>
         ensures ok { OnOk result (self.new ≡ self.old ++ step ∷ []) }
         ensures err { OnErr result (self.new ≡ self.old) }
@@ -102,6 +104,7 @@ impl Loc {
         }
     }
 
+    /// How many steps there are.
     pub fn len(&self) -> usize
         ensures { result ≡ length self.now }
     {
@@ -116,6 +119,7 @@ impl Loc {
         self.steps.as_slice().get(place)
     }
 
+    /// The steps, the outermost first.
     pub fn as_slice(&self) -> &[Step]
         ensures { result.now ≡ self.now }
     {

@@ -49,6 +49,7 @@ fn merge_members(alloc: Global, members: Vec<(Text, Tree)>) -> Result<Members, M
 }
 
 impl Tree {
+    /// The array of these items.
     pub fn array(alloc: Global, items: Vec<Tree>) -> Result<Tree, Memory>
         ensures { IfOk result (λ t. t ≡ Tree.Array items.items) }
     {

@@ -5,6 +5,7 @@ ghost use Rattle.std.specs.Bool.{OnFalse};
 ghost use Rattle.pv_tree.specs.Merging.{IsIndex, merged, place_of};
 ghost use Rattle.pv_tree.specs.Merging as spec;
 
+use crate::name_order::{NameOrder, are_ascending};
 use pv_text::{Memory, Text};
 use std::alloc::Global;
 use std::collections::BTreeMap;
@@ -29,7 +30,8 @@ fn may_repeat<V>(members: &[(Text, V)]) -> bool
     ensures { OnFalse result (merged members.now ≡ members.now) }
 {
     if members.len() > FEW {
-        return true;
+        return !are_ascending(NameOrder::ByLength, members)
+            && !are_ascending(NameOrder::ByBytes, members);
     }
     for place in 0..members.len() {
         if is_among(&members[..place], &members[place].0) {
@@ -77,7 +79,7 @@ fn merge_repeated<V: Drop>(alloc: Global, members: Vec<(Text, V)>) -> Result<Vec
 }
 
 /// The members in their order, repeated names merged. Takes time in proportion to the length of
-/// all names, and to the logarithm of their number.
+/// all names, and, unless they ascend, to the logarithm of their number.
 pub(crate) fn merge<V: Drop>(
     alloc: Global,
     members: Vec<(Text, V)>,

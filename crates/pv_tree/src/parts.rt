@@ -60,6 +60,7 @@ impl Tree {
         }
     }
 
+    /// Whether it is `null`.
     pub fn is_null(&self) -> bool
         ensures { result ≡ null_at (out-Tree self.now) }
     {

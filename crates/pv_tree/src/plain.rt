@@ -37,9 +37,9 @@ fn plain_members(alloc: Global, members: &Members) -> Result<Entries, Memory>
 {
     let mut all = Vec::with_capacity(alloc, members.len())?;
     for (name, value) in members.as_slice() {
-        let key = Value::Str(name.share(alloc)?);
+        let name = name.share(alloc)?;
         let value = plain_value(alloc, value)?;
-        all.push((key, value))?;
+        all.push((Value::Str(name), value))?;
     }
     Ok(Items::from_vec(all))
 }

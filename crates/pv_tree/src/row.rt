@@ -45,6 +45,7 @@ impl<T: Drop> Row<T> {
 }
 
 impl<T> Row<T> {
+    /// How many items there are.
     pub fn len(&self) -> usize
         ensures { result ≡ length self.now }
     {
@@ -59,6 +60,7 @@ impl<T> Row<T> {
         self.inner.as_ref().get(place)
     }
 
+    /// The items in their order.
     pub fn as_slice(&self) -> &[T]
         ensures { result.now ≡ self.now }
     {

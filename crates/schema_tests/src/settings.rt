@@ -2,7 +2,7 @@
 
 use crate::fixtures::{shown, tree};
 use pv_rules::{ScalarRule, Settings, StrRule};
-use pv_scalar::{Scalar, scalar};
+use pv_scalar::{Matchers, Scalar, scalar};
 use pv_text::ByteBuf;
 use std::alloc::Global;
 use std::process::Abort;
@@ -36,7 +36,8 @@ const BY_RULE: [(&str, &str); 3] = [
 
 fn shown_by(rt: &impl Abort, alloc: Global, scalar_rule: &Scalar, input: &str) -> ByteBuf {
     let input = tree(rt, alloc, input.as_bytes());
-    let outcome = scalar(alloc, scalar_rule, false, &input).expect(rt, "memory");
+    let mut matchers = Matchers::new(alloc);
+    let outcome = scalar(alloc, &mut matchers, scalar_rule, false, &input).expect(rt, "memory");
     shown(rt, alloc, &outcome)
 }
 

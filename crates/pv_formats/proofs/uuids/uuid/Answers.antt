@@ -1,4 +1,4 @@
-use Rattle.std.proofs.Common.{◌≡◌, ℕ, List, Option, None, Some, true, false, option_map, refl, sym, true≢false}
+use Rattle.std.proofs.Common.{◌≡◌, Option, None, Some, true, false, option_map, refl, sym, true≢false}
 use Rattle.uuid.specs.Text.{parsed}
 use Rattle.pv_formats.specs.Uuids.{uuid_of}
 use Rattle.pv_formats.proofs.uuids.uuid.Goals as goal

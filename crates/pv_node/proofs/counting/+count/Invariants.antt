@@ -1,6 +1,10 @@
 use Rattle.std.proofs.Common.{◌≡◌, ◌+◌, drop}
-use Rattle.pv_node.specs.Preorder.{nodes_count}
+use Rattle.pv_node.specs.Places.{slots_of}
+use Rattle.pv_node.specs.Preorder.{node_count, slots_count}
 use Rattle.pv_node.proofs.counting.+count.Given as goal
 
-abbrev pub invariant-count_all-loop-node : goal.invariant-count_all-loop-node
-invariant-count_all-loop-node l = l.total + nodes_count (drop l.node-index l.nodes) ≡ nodes_count l.nodes
+abbrev pub decreases-count_nodes : goal.decreases-count_nodes
+decreases-count_nodes l = node_count l.node.now
+
+abbrev pub invariant-loop-place : goal.invariant-loop-place
+invariant-loop-place l = l.total + slots_count (drop l.place (slots_of l.node)) ≡ node_count l.node

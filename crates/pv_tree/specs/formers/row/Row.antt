@@ -37,11 +37,13 @@ the_empty = []
 abbrev pub the_items : (X : Type 0) → List X → List X
 the_items X d = d
 
-pub the_items_listed : (X : Type 0) (d : List X) → listed _ (children (the_former this) X d) ≡ the_items X d
+pub the_items_listed : (X : Type 0) (d : List X) → listed _ (children (the_former this) X d) ≡
+    the_items X d
 the_items_listed X d = list-listed X d
 
 abbrev fields : Former {0}
-fields = via (pair (const Ptr) (vec.the_former this Global)) Inside (λ X a. (a.inner.ptr, a.inner.value))
+fields =
+    via (pair (const Ptr) (vec.the_former this Global)) Inside (λ X a. (a.inner.ptr, a.inner.value))
     (λ X v. record { inner = record { ptr = v.0; value = v.1 } }) (λ X a. refl) (λ X v. refl)
 
 abbrev with_value : {X Y : Type 0} → Rc X Global → Y → Rc Y Global
@@ -55,17 +57,27 @@ module _ (R S : RattleType) (h : R.Denot → S.Denot) where
   unfolding part_of
   rc_places a = record {
     mir_same = λ i. (rc_of (one_value R (a.mir_same i) (λ _. ftrue) (λ _ _. nothing) gnil)).mir;
-    own_same = λ b i. (rc_of (one_value R (a.mir_same i) (a.own_same b.value i) (a.shr_same b.value i) gnil)).own_val (with_value b tt);
-    shr_same = λ b i. (rc_of (one_value R (a.mir_same i) (a.own_same b.value i) (a.shr_same b.value i) gnil)).shr_at (with_value b tt);
+    own_same =
+        λ b i. (rc_of (one_value R (a.mir_same i) (a.own_same b.value i) (a.shr_same b.value i)
+        gnil)).own_val (with_value b tt);
+    shr_same =
+        λ b i. (rc_of (one_value R (a.mir_same i) (a.own_same b.value i) (a.shr_same b.value i)
+        gnil)).shr_at (with_value b tt);
   }
 
 module _ (R S : RattleType) (h : R.Denot → S.Denot) where
-  pub the_places : Alike R S h → Alike (C.the_row R) (C.the_row S) ((the_former this).map R.Denot S.Denot h)
-  the_places a = view_places fields (list this) view (λ X Y k u. refl) (λ X u. refl) R.Denot S.Denot h (C.the_row R).coded (C.the_row S).coded
-      (invariant R.Denot) (invariant S.Denot) (λ u p q. refl) (λ u p q. refl) (λ u e. tt) (λ u e. tt)
+  pub the_places : Alike R S h → Alike (C.the_row R) (C.the_row S)
+      ((the_former this).map R.Denot S.Denot h)
+  the_places a =
+      view_places fields (list this) view (λ X Y k u. refl) (λ X u. refl) R.Denot S.Denot h
+      (C.the_row R).coded (C.the_row S).coded
+      (invariant R.Denot) (invariant S.Denot) (λ u p q. refl) (λ u p q. refl) (λ u e. tt)
+      (λ u e. tt)
       (over (I.the_row R)) (over (I.the_row S))
-      (struct_places (I.the_type R) (I.the_type S) ((λ b. with_value b (vec.mapped h b.value)), tt) _ (λ d. refl) refl
+      (struct_places (I.the_type R) (I.the_type S) ((λ b. with_value b (vec.mapped h b.value)), tt)
+      _ (λ d. refl) refl
       (laid _ _ _ (rc_places _ _ (vec.mapped h) (vec.the_places heap.the_row ghosts R S h a)), tt))
 
-  pub the_codes_placed : Recodes R S h → Recodes (C.the_row R) (C.the_row S) ((the_former this).map R.Denot S.Denot h)
+  pub the_codes_placed : Recodes R S h → Recodes (C.the_row R) (C.the_row S)
+      ((the_former this).map R.Denot S.Denot h)
   the_codes_placed e d = sym (code_map R.coded.code S.coded.code h (λ x. sym (e x)) d)

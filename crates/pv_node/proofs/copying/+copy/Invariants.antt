@@ -1,5 +1,0 @@
-use Rattle.std.proofs.Common.{◌≡◌, take}
-use Rattle.pv_node.proofs.copying.+copy.Given as goal
-
-abbrev pub invariant-copy_nodes-loop-node : goal.invariant-copy_nodes-loop-node
-invariant-copy_nodes-loop-node l = l.copied.items ≡ take l.node-index l.nodes
