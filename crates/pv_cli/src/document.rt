@@ -1,6 +1,7 @@
 //! The answer to a document under a schema.
 
 ghost use Rattle.std.specs.Prelude.{◌≡◌, IfOk};
+ghost use Rattle.pv_json_grammar.specs.Documents.{whole};
 ghost use Rattle.pv_cli.specs.Documents as spec;
 ghost use Rattle.pv_cli.specs.Faults as text;
 
@@ -68,6 +69,19 @@ fn answer_outcome(alloc: Global, outcome: &Outcome) -> Result<Answer, Memory>
     }
 }
 
+/// The answer to a document that was read.
+fn answer_tree(
+    alloc: Global,
+    strict: Option<bool>,
+    plan: &Plan,
+    tree: &Tree,
+) -> Result<Answer, Memory>
+    ensures { IfOk result (λ a. a ≡ spec.of_reading strict plan.now (whole tree.now)) }
+{
+    let outcome = validate(alloc, plan, strict, tree)?;
+    answer_outcome(alloc, &outcome)
+}
+
 #[tactic(auto, unfolding(crate::specs::Documents::of_document))]
 pub(crate) fn answer_document(
     alloc: Global,
@@ -78,10 +92,7 @@ pub(crate) fn answer_document(
     ensures { IfOk result (λ a. a ≡ spec.of_document strict plan.now bytes.now) }
 {
     match read(alloc, bytes) {
-        Ok(tree) => {
-            let outcome = validate(alloc, plan, strict, &tree)?;
-            answer_outcome(alloc, &outcome)
-        }
+        Ok(tree) => answer_tree(alloc, strict, plan, &tree),
         Err(ReadFault::Bad { at }) => no_json(alloc, bad_text(alloc, at)?),
         Err(ReadFault::End) => no_json(alloc, end_text(alloc)?),
         Err(ReadFault::Memory) => Err(Memory),

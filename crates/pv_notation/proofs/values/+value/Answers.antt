@@ -310,4 +310,3 @@ pub write_part-returns-in_err-push_slice-in-Root-clause-err :
     goal.write_part-returns-in_err-push_slice-in-Root-clause-err
 write_part-returns-in_err-push_slice-in-Root-clause-err t c =
     stopped _ (front_past _ _ _ _ c.in_ok-open_list_of-in-Root.ensures.ok (front_past _ _ _ _ c.in_ok-write_part-in-Root.ensures.ok (front_same _ _ c.in_err-push_slice-in-Root.ensures.err)))
-
