@@ -7,3 +7,5 @@ pub mod Appending
 pub mod Sightings
 pub mod Placing
 pub mod Putting
+pub mod Chains
+pub mod Named
