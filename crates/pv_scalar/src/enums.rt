@@ -87,6 +87,12 @@ pub(crate) struct EnumTests {
     pub(crate) sub_type: Option<SubType>,
 }
 
+fn text_value(alloc: Global, text: &Text) -> Result<Value, Memory>
+    ensures { IfOk result (λ v. v ≡ Value.Str text.now) }
+{
+    Ok(Value::Str(text.share(alloc)?))
+}
+
 fn literal_value(alloc: Global, value: &Literal) -> Result<Value, Memory>
     ensures { IfOk result (λ v. v ≡ spec.literal_value value.now) }
 {
@@ -94,7 +100,7 @@ fn literal_value(alloc: Global, value: &Literal) -> Result<Value, Memory>
         Literal::Null => Ok(Value::None),
         Literal::Flag(flag) => Ok(Value::Bool(*flag)),
         Literal::Int(n) => Ok(Value::Int(*n)),
-        Literal::Text(text) => Ok(Value::Str(text.share(alloc)?)),
+        Literal::Text(text) => text_value(alloc, text),
     }
 }
 

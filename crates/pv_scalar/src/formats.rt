@@ -5,12 +5,12 @@ ghost use Rattle.pv_scalar.specs.TestRules.{url_rule};
 ghost use Rattle.pv_scalar.specs.Formats as spec;
 ghost use Rattle.pv_scalar.specs.Scalars as answer;
 
-use crate::answers::Graded;
+use crate::answers::{Graded, with_fault};
 use crate::schemes::Schemes;
 use crate::texts::char_count;
 use pv_fault::{Grade, Kind};
 use pv_formats::{UrlText, UuidText, url, uuid};
-use pv_text::Memory;
+use pv_text::{Memory, Text};
 use pv_tree::{AtomKind, Tree, Value};
 use std::alloc::Global;
 
@@ -19,6 +19,12 @@ use std::alloc::Global;
 pub(crate) struct UrlTests {
     pub(crate) max_length: Option<u64>,
     pub(crate) allowed_schemes: Option<Schemes>,
+}
+
+fn atom(kind: AtomKind, text: Text) -> Value
+    ensures { result ≡ Value.Atom kind text }
+{
+    Value::Atom { kind, text }
 }
 
 fn version_fault(version: Option<u64>, id: &UuidText) -> Option<Kind>
@@ -39,16 +45,8 @@ fn uuid_in(alloc: Global, version: Option<u64>, text: &str) -> Result<Graded<Val
     let Some(id) = uuid(alloc, text)? else {
         return Ok(Err(Kind::UuidParsing));
     };
-    match version_fault(version, &id) {
-        Some(kind) => Ok(Err(kind)),
-        None => Ok(Ok((
-            Value::Atom {
-                kind: AtomKind::Uuid,
-                text: id.text,
-            },
-            Grade::Strict,
-        ))),
-    }
+    let fault = version_fault(version, &id);
+    Ok(with_fault(fault, atom(AtomKind::Uuid, id.text), Grade::Strict))
 }
 
 /// A UUID.
@@ -108,16 +106,8 @@ fn url_in(alloc: Global, tests: &UrlTests, text: &str) -> Result<Graded<Value>, 
     let Some(found) = url(alloc, text)? else {
         return Ok(Err(Kind::UrlParsing));
     };
-    match scheme_fault(alloc, &tests.allowed_schemes, &found)? {
-        Some(kind) => Ok(Err(kind)),
-        None => Ok(Ok((
-            Value::Atom {
-                kind: AtomKind::Url,
-                text: found.text,
-            },
-            Grade::Strict,
-        ))),
-    }
+    let fault = scheme_fault(alloc, &tests.allowed_schemes, &found)?;
+    Ok(with_fault(fault, atom(AtomKind::Url, found.text), Grade::Strict))
 }
 
 /// A URL.

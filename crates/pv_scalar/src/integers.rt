@@ -16,9 +16,9 @@ fn whole_int(grade: Grade, whole: Whole) -> Graded<i128>
     ensures { result ≡ spec.whole_int grade whole }
 {
     match whole {
-        Whole::Fits(n) => Ok((n, grade)),
         Whole::TooBig => Err(Kind::IntParsingSize),
         Whole::Fraction => Err(Kind::IntFromFloat),
+        Whole::Fits(n) => Ok((n, grade)),
     }
 }
 

@@ -1,6 +1,6 @@
 //! Values as a list for a reader.
 
-ghost use Rattle.std.specs.Prelude.{◌≡◌, ◌++◌, map, string_bytes, IfOk, OnOk};
+ghost use Rattle.std.specs.Prelude.{◌≡◌, ◌++◌, map, string_bytes, codes, if◌then◌else◌, IfOk, OnOk};
 ghost use Rattle.pv_scalar.specs.Literals as spec;
 
 use pv_rules::Literal;
@@ -20,11 +20,7 @@ fn in_quotes(alloc: Global, text: &Text) -> Result<Text, Memory>
 fn flag_text(alloc: Global, flag: bool) -> Result<Text, Memory>
     ensures { IfOk result (λ t. t ≡ spec.literal_text (Literal.Flag flag)) }
 {
-    if flag {
-        Text::from_str(alloc, "True")
-    } else {
-        Text::from_str(alloc, "False")
-    }
+    Text::from_str(alloc, if flag { "True" } else { "False" })
 }
 
 fn text_of(alloc: Global, value: &Literal) -> Result<Text, Memory>
@@ -63,16 +59,20 @@ fn listed(alloc: Global, texts: &[Text]) -> Result<Text, Memory>
     Text::from_str(alloc, out.as_str())
 }
 
+/// What stands before a text of the list, other than the first.
+fn push_separator(out: &mut String, is_last: bool) -> Result<(), Memory>
+    ensures { OnOk result (string_bytes out.new ≡ string_bytes out.old ++ (if is_last then codes " or " else codes ", ")) }
+{
+    out.push_str(if is_last { " or " } else { ", " })?;
+    Ok(())
+}
+
 /// The texts behind the first.
 fn push_rest(out: &mut String, rest: &[Text]) -> Result<(), Memory>
     ensures { OnOk result (string_bytes out.new ≡ string_bytes out.old ++ spec.listed_on rest.now) }
 {
     for (place, text) in rest.iter().enumerate() {
-        if place + 1 == rest.len() {
-            out.push_str(" or ")?;
-        } else {
-            out.push_str(", ")?;
-        }
+        push_separator(out, place + 1 == rest.len())?;
         out.push_str(text.as_str())?;
     }
     Ok(())

@@ -24,9 +24,10 @@ pub(crate) struct Places {
 fn note_int(ints: &mut HashMap<i128, usize>, n: i128, place: usize) -> Result<(), Memory>
     ensures { OnOk result ((q : ℤ) → get int_eq ints.new q ≡ option_or (get int_eq ints.old q) (if int_eq n q then Some place else None)) }
 {
-    if !ints.contains_key(&n) {
-        ints.insert(n, place)?;
+    if ints.contains_key(&n) {
+        return Ok(());
     }
+    ints.insert(n, place)?;
     Ok(())
 }
 

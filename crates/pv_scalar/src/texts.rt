@@ -8,7 +8,7 @@ ghost use Rattle.pv_scalar.specs.Texts as spec;
 ghost use Rattle.pv_scalar.specs.Scalars as answer;
 ghost use Rattle.pv_scalar.specs.TestRules.{str_rule};
 
-use crate::answers::Graded;
+use crate::answers::{Graded, with_fault};
 use pv_fault::{Grade, Kind};
 use pv_formats::{Matchers, Pattern};
 use pv_rules::{BytesRule, Settings};
@@ -32,13 +32,10 @@ pub(crate) fn char_count(text: &str) -> u64
     text.chars().count() as u64
 }
 
-/// The text without white space around it, where that is asked for.
-fn stripped(alloc: Global, strip: bool, text: &Text) -> Result<Text, Memory>
-    ensures { IfOk result (λ t. t ≡ (if strip then trim text.now else text.now)) }
+/// The text without white space around it. It is a copy only where there is some.
+fn trimmed(alloc: Global, text: &Text) -> Result<Text, Memory>
+    ensures { IfOk result (λ t. t ≡ trim text.now) }
 {
-    if !strip {
-        return text.share(alloc);
-    }
     let trimmed = text.as_str().trim();
     if trimmed == text.as_str() {
         text.share(alloc)
@@ -47,22 +44,33 @@ fn stripped(alloc: Global, strip: bool, text: &Text) -> Result<Text, Memory>
     }
 }
 
-fn too_short(min_length: Option<u64>, text: &str) -> Option<Kind>
-    ensures { result ≡ unless min_length (λ bound. nat_le bound (spec.char_count text.now)) Kind.StringTooShort }
+/// The text without white space around it, where that is asked for.
+fn stripped(alloc: Global, strip: bool, text: &Text) -> Result<Text, Memory>
+    ensures { IfOk result (λ t. t ≡ (if strip then trim text.now else text.now)) }
+{
+    if strip {
+        trimmed(alloc, text)
+    } else {
+        text.share(alloc)
+    }
+}
+
+fn too_short(min_length: Option<u64>, count: u64) -> Option<Kind>
+    ensures { result ≡ unless min_length (λ bound. nat_le bound count) Kind.StringTooShort }
 {
     let min_length = min_length?;
-    if min_length <= char_count(text) {
+    if min_length <= count {
         None
     } else {
         Some(Kind::StringTooShort { min_length })
     }
 }
 
-fn too_long(max_length: Option<u64>, text: &str) -> Option<Kind>
-    ensures { result ≡ unless max_length (λ bound. nat_le (spec.char_count text.now) bound) Kind.StringTooLong }
+fn too_long(max_length: Option<u64>, count: u64) -> Option<Kind>
+    ensures { result ≡ unless max_length (λ bound. nat_le count bound) Kind.StringTooLong }
 {
     let max_length = max_length?;
-    if char_count(text) <= max_length {
+    if count <= max_length {
         None
     } else {
         Some(Kind::StringTooLong { max_length })
@@ -97,7 +105,11 @@ fn length_fault(tests: &StrTests, settings: &Settings, text: &str) -> Option<Kin
 {
     let min_length = tests.min_length.or(settings.str_min_length);
     let max_length = tests.max_length.or(settings.str_max_length);
-    too_short(min_length, text).or(too_long(max_length, text))
+    if min_length.is_none() && max_length.is_none() {
+        return None;
+    }
+    let count = char_count(text);
+    too_short(min_length, count).or(too_long(max_length, count))
 }
 
 #[tactic(auto, unfolding(crate::specs::Texts::text_fault))]
@@ -134,10 +146,8 @@ pub(crate) fn str_answer<'a>(
         .strip_whitespace
         .unwrap_or(settings.str_strip_whitespace);
     let text = stripped(alloc, strip, text)?;
-    match text_fault(alloc, matchers, tests, settings, text.as_str())? {
-        Some(kind) => Ok(Err(kind)),
-        None => Ok(Ok((Value::Str(text), Grade::Exact))),
-    }
+    let fault = text_fault(alloc, matchers, tests, settings, text.as_str())?;
+    Ok(with_fault(fault, Value::Str(text), Grade::Exact))
 }
 
 fn few_bytes(min_length: Option<u64>, length: usize) -> Option<Kind>

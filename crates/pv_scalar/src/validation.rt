@@ -1,6 +1,7 @@
 //! The outcome of a scalar for a tree.
 
-ghost use Rattle.std.specs.Prelude.{◌≡◌, IfOk};
+ghost use Rattle.std.specs.Prelude.{◌≡◌, Ok, Err, if◌then◌else◌, IfOk};
+ghost use Rattle.pv_tree.specs.Plain.{plain};
 ghost use Rattle.pv_scalar.specs.Bodies.{rule_of};
 ghost use Rattle.pv_scalar.specs.Scalars as spec;
 
@@ -18,15 +19,29 @@ use pv_text::Memory;
 use pv_tree::{Tree, Value, plain_value};
 use std::alloc::Global;
 
-#[tactic(auto, unfolding(crate::specs::Scalars::none_answer))]
-fn none_answer(tree: &Tree) -> Graded<Value>
-    ensures { result ≡ spec.none_answer tree.now }
+/// Any tree, as the value that it is.
+fn any_answer(alloc: Global, tree: &Tree) -> Result<Graded<Value>, Memory>
+    ensures { IfOk result (λ a. a ≡ Ok (plain tree.now, Grade.Lax)) }
 {
-    if tree.is_null() {
+    let value = plain_value(alloc, tree)?;
+    Ok(Ok((value, Grade::Lax)))
+}
+
+fn null_answer(is_null: bool) -> Graded<Value>
+    ensures { result ≡ (if is_null then Ok (Value.None, Grade.Exact) else Err Kind.NoneRequired) }
+{
+    if is_null {
         Ok((Value::None, Grade::Exact))
     } else {
         Err(Kind::NoneRequired)
     }
+}
+
+#[tactic(auto, unfolding(crate::specs::Scalars::none_answer))]
+fn none_answer(tree: &Tree) -> Graded<Value>
+    ensures { result ≡ spec.none_answer tree.now }
+{
+    null_answer(tree.is_null())
 }
 
 #[tactic(auto, unfolding(crate::specs::Scalars::bool_answer))]
@@ -64,7 +79,7 @@ fn answer<'a>(
     ensures { IfOk result (λ a. a ≡ spec.answer_of (rule_of body.now) settings.now strict tree.now) }
 {
     match body {
-        Body::Any => Ok(Ok((plain_value(alloc, tree)?, Grade::Lax))),
+        Body::Any => any_answer(alloc, tree),
         Body::None => Ok(none_answer(tree)),
         Body::Bool => Ok(bool_answer(strict, tree)),
         Body::Int(rule) => Ok(int_answer(rule, strict, tree)),

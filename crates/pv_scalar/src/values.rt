@@ -14,7 +14,8 @@ pub(crate) fn values_of(alloc: Global, members: &[EnumMember]) -> Result<Items<L
 {
     let mut all = Vec::with_capacity(alloc, members.len())?;
     for member in members {
-        all.push(member.value.copy(alloc)?)?;
+        let value = member.value.copy(alloc)?;
+        all.push(value)?;
     }
     Ok(Items::from_vec(all))
 }
