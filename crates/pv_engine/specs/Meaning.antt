@@ -1,44 +1,51 @@
--- What a schema means, by its own nodes: the outcome for a tree at a depth. Each node that is
+-- What a schema means, by its own places: the outcome for a tree at a depth. Each place that is
 -- entered takes one from the depth, and at depth 0 there is one error and nothing is looked at.
 use Rattle.std.specs.Prelude.{ℕ, zero, suc, Bool, [], ◌∷◌, map, Option, None, Some}
 use Rattle.pv_tree.specs.declared.Tree.{Tree}
-use Rattle.pv_rules.specs.Settings.{plain}
 use Rattle.pv_fault.specs.declared.Kind.TheVariants as kind
 use Rattle.pv_fault.specs.declared.Outcome.{Outcome}
 use Rattle.pv_fault.specs.Single.{one_error}
 use Rattle.pv_node.specs.declared.Node.{Node}
 use Rattle.pv_node.specs.declared.Body.{Body}
 use Rattle.pv_node.specs.declared.Body.TheOpen.{Body-F}
-use Rattle.pv_node.specs.Absent.{or_any}
-use Rattle.pv_node.specs.Preorder.{body_of}
+use Rattle.pv_node.specs.Places.{Slot, Place, body_of, root_place, items_slot, position_slots, keys_slot, values_slot, inner_slot}
 use Rattle.pv_scalar.specs.Scalars.{scalar_of}
-use Rattle.pv_plan.specs.Records.{own_strict}
+use Rattle.pv_plan.specs.Records.{child_at, own_strict}
 use Rattle.pv_engine.specs.Rules.{collection, nullable}
 
--- the strictness of the run, where it has one, else that of the node
+-- the strictness of the run, where it has one, else that of the place
 abbrev pub strict_in : Option Bool → Bool → Bool
 strict_in None own = own
 strict_in (Some strict) own = strict
 
--- a node, by what the nodes mean that it enters; `run` is the strictness of the run
-module _ (run : Option Bool) (child : Node → Tree → Outcome) where
-  -- by its own strictness and its body
-  abbrev pub node_at : Bool → Body-F Body Node → Tree → Outcome
-  node_at strict (Body-F.Scalar r) t = scalar_of r plain (strict_in run strict) t
-  node_at strict (Body-F.Sequence r items) t = collection r (child (or_any items) ∷ []) t
-  node_at strict (Body-F.Tuple r items) t = collection r (map child items) t
-  node_at strict (Body-F.Dict r keys values) t =
-      collection r (child (or_any keys) ∷ child (or_any values) ∷ []) t
-  node_at strict (Body-F.Nullable inner) t = nullable (child inner) t
+-- A place of a schema, by what the places mean that it leads to; `run` is the strictness of the
+-- run.
+module _ (run : Option Bool) (child : Place → Tree → Outcome) (root : Node) (place : Place) where
+  -- what the child schema of a slot means, or what stands for an absent one
+  abbrev pub by_slot : Slot Node → Tree → Outcome
+  by_slot slot = child (child_at place slot)
 
-  -- by itself
-  unfoldable pub node : Node → Tree → Outcome
-  node n t = node_at (own_strict n) (body_of n) t
+  -- by the body of its node
+  abbrev pub node_at : Body-F Body Node → Tree → Outcome
+  node_at (Body-F.Scalar r) t = scalar_of r place.settings (strict_in run (own_strict place)) t
+  node_at (Body-F.Sequence r items) t = collection r (by_slot (items_slot items) ∷ []) t
+  node_at (Body-F.Tuple r items) t = collection r (map by_slot (position_slots 0 items)) t
+  node_at (Body-F.Dict r keys values) t =
+      collection r (by_slot (keys_slot keys) ∷ by_slot (values_slot values) ∷ []) t
+  node_at (Body-F.Nullable inner) t = nullable (by_slot (inner_slot inner)) t
 
--- to this depth
-unfoldable pub meaning : Option Bool → ℕ → Node → Tree → Outcome
-meaning run zero n t = one_error kind.RecursionLoop t
-meaning run (suc d) n t = node run (meaning run d) n t
+  -- by its node
+  unfoldable pub node : Tree → Outcome
+  node t = node_at (body_of place.node) t
+
+-- a place of a schema, to this depth
+unfoldable pub meaning_at : Option Bool → Node → ℕ → Place → Tree → Outcome
+meaning_at run root zero place t = one_error kind.RecursionLoop t
+meaning_at run root (suc d) place t = node run (meaning_at run root d) root place t
+
+-- a schema, to this depth
+abbrev pub meaning : Option Bool → ℕ → Node → Tree → Outcome
+meaning run d root t = meaning_at run root d (root_place root) t
 
 -- the depth at which the root is entered
 abbrev pub full_depth : ℕ

@@ -5,9 +5,8 @@ use Rattle.std.proofs.Math.Seq.{drop-append_seam}
 use Rattle.std.proofs.lemmas.List.{append_assoc, append-nil}
 use Rattle.std.proofs.lemmas.Grind.{flat_map-append}
 use Rattle.pv_rules.specs.Settings.{plain}
-use Rattle.pv_rules.specs.declared.Settings.{Settings}
 use Rattle.pv_node.specs.declared.Node.{Node}
-use Rattle.pv_node.specs.Places.{Path, Slot, Place, place_at, places, places_at, places_in, places_of, root_place, slots_of}
+use Rattle.pv_node.specs.Places.{Path, Slot, Place, place_at, places, places_at, places_in, root_place, slots_of}
 use Rattle.pv_node.specs.Preorder.{node_count, count_at}
 use Rattle.pv_node.proofs.Openings.{opens}
 use Rattle.pv_node.proofs.Counts.{count_placed}

@@ -1,11 +1,10 @@
 -- Faults seen from where the steps to them begin.
-use Rattle.std.proofs.Common.{◌≡◌, ℕ, ◌+◌, drop, slice_get, List, [], ◌∷◌, ◌++◌, Bool, true, false, if◌then◌else◌, Option, Some, None, is_some, true≢false, refl, ap, sym, ◌∙◌}
+use Rattle.std.proofs.Common.{◌≡◌, ℕ, ◌+◌, drop, slice_get, List, [], ◌∷◌, ◌++◌, Bool, true, false, if◌then◌else◌, Option, Some, None, refl, ap, sym, ◌∙◌}
 use Rattle.std.specs.Option.{option_map, option_or}
 use Rattle.std.proofs.lemmas.List.{append_assoc}
-use Rattle.pv_tree.specs.declared.Step.TheVariants.{Name, Index}
 use Rattle.pv_node.specs.declared.Node.{Node}
 use Rattle.pv_node.specs.Places.{Path, Slot, slots_of}
-use Rattle.pv_node.specs.Preorder.{first_path, first_in, path_in, path_at, path_of}
+use Rattle.pv_node.specs.Preorder.{first_path, first_in, path_in, path_at}
 use Rattle.pv_node.proofs.Firsts.{first_opens}
 use Rattle.pv_plan.proofs.Tables.{drop_here}
 use Rattle.pv_plan.specs.declared.faults.BuildFault.{BuildFault}

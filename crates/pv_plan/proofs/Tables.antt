@@ -11,7 +11,7 @@ use Rattle.pv_node.specs.declared.Node.{Node}
 use Rattle.pv_node.specs.Places.{Path, Slot, Place, place_at, places, places_at, places_of, places_in, slots_of}
 use Rattle.pv_node.specs.Preorder.{node_count, count_at, slots_count, first_in}
 use Rattle.pv_node.proofs.Openings.{opens}
-use Rattle.pv_node.proofs.Counts.{count_inside, count_first, count_placed}
+use Rattle.pv_node.proofs.Counts.{count_inside, count_first}
 use Rattle.pv_plan.specs.declared.record.Op.TheVariants as op
 use Rattle.pv_plan.specs.declared.record.Record.{Record}
 use Rattle.pv_plan.specs.Records.{any_place, all_places}

@@ -7,7 +7,7 @@ use Rattle.pv_rules.specs.declared.ScalarRule.{ScalarRule}
 use Rattle.pv_rules.specs.declared.ScalarRule.TheVariants as rule
 use Rattle.pv_node.specs.declared.Node.{Node}
 use Rattle.pv_node.specs.Places.{Path, Slot, body_of, rule_of}
-use Rattle.pv_node.specs.Preorder.{first_in, first_path}
+use Rattle.pv_node.specs.Preorder.{first_path}
 use Rattle.pv_formats.specs.Patterns.{is_readable}
 
 -- a pattern that is there and cannot be read

@@ -1,6 +1,6 @@
 use Rattle.std.proofs.Common.{◌≡◌, ◌∙◌, ap, refl, Some, slice_get}
-use Rattle.pv_node.specs.Preorder.{preorder}
-use Rattle.pv_plan.specs.Records.{places}
+use Rattle.pv_node.specs.Places.{places_of, root_place}
+use Rattle.pv_plan.specs.Records.{all_places}
 use Rattle.pv_plan.specs.Layout.{table_of}
 use Rattle.pv_plan.proofs.Placed.{stands}
 use Rattle.pv_engine.specs.Run.{run_table, given}
@@ -9,11 +9,11 @@ use Rattle.pv_engine.proofs.Loops.{ok_same}
 use Rattle.pv_engine.proofs.validating.validate.Goals as goal
 
 pub returns : goal.returns
-unfolding preorder given
+unfolding places_of given
 returns c =
     let root = c.args.plan.now in
-    let here : slice_get (places root) 0 ≡ Some root = refl in
+    let here : slice_get (all_places root) 0 ≡ Some (root_place root) = refl in
     ok_same c.validate_at.result _ _
     (ap (λ n. run_table c.as_slice.result.now c.args.strict 1000 n c.args.t.now) c.root.ensures
     ∙ ap (λ table. run_table table c.args.strict 1000 0 c.args.t.now) c.as_slice.ensures
-    ∙ agrees root (table_of root) c.args.strict (stands root) 1000 0 root c.args.t.now here) c.validate_at.ensures
+    ∙ agrees root (table_of root) c.args.strict (stands root) 1000 0 (root_place root) c.args.t.now here) c.validate_at.ensures

@@ -1,12 +1,10 @@
-use Rattle.std.proofs.Common.{rules, ◌≡◌, ◌<◌, ◌+◌, ◌++◌, [], ◌∷◌, length, drop, take, slice_get, Some, None, refl, sym, ap, ◌∙◌, arith}
-use Rattle.std.specs.List.{flat_map}
+use Rattle.std.proofs.Common.{rules, [], length, refl, sym}
 use Rattle.std.proofs.lemmas.List.{append-nil}
-use Rattle.pv_node.specs.Places.{Path, places_in, places_of, slots_of}
-use Rattle.pv_node.specs.Preorder.{node_count, count_at}
+use Rattle.pv_node.specs.Places.{slots_of}
 use Rattle.pv_node.specs.Lending.{lent}
-use Rattle.pv_node.proofs.Counts.{smaller, count_opens, count_in_slot}
-use Rattle.pv_node.proofs.Lending.{lent_here, lent_past, written_here, written_none}
-use Rattle.pv_plan.specs.Layout.{table_from, number_of, numbers}
+use Rattle.pv_node.proofs.Counts.{count_in_slot}
+use Rattle.pv_node.proofs.Lending.{lent_here, lent_past, written_none}
+use Rattle.pv_plan.specs.Layout.{table_from}
 use Rattle.pv_plan.proofs.Tables.{laid, laid_more, laid_all, laid_none, numbers_more, numbers_all, first_more, first_past, later}
 use Rattle.pv_plan.proofs.Searching.{first_fails}
 use Rattle.pv_plan.proofs.laying.Laying.+lay.Goals as goal
