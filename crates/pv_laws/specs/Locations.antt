@@ -16,4 +16,5 @@ keeps_locations (Body-F.Nullable inner) = true
 
 -- each node of a schema keeps them
 abbrev pub KeepsLocations : Node → Type 0
-KeepsLocations root = AllByRecursion (λ place. keeps_locations (body_of place.node) ≡ true) (places root)
+KeepsLocations root =
+    AllByRecursion (λ place. keeps_locations (body_of place.node) ≡ true) (places root)
