@@ -1,12 +1,11 @@
 -- The location of each error leads to its input.
-use Rattle.std.proofs.Common.{◌≡◌, ℕ, zero, suc, Bool, Option, None, Some, Ok, Err, List, [], ◌∷◌, ◌++◌, map, flat_map, length, slice_get, refl, ap, arith}
+use Rattle.std.proofs.Common.{◌≡◌, ℕ, zero, suc, Bool, true, drop, get_or, subst, Option, None, Some, Ok, Err, List, [], ◌∷◌, ◌++◌, map, flat_map, length, slice_get, refl, ap, arith}
 use Rattle.std.proofs.lemmas.List.Elements.{All-contains_itself, recursion_from_All}
 use Rattle.std.specs.List.{AllByRecursion, Contains}
 use Rattle.pv_tree.specs.declared.Tree.{Tree, out-Tree}
 use Rattle.pv_tree.specs.declared.Tree.TheOpen.{Tree-F}
 use Rattle.pv_tree.specs.Parts.{items_at, members_at, null_at}
 use Rattle.pv_tree.specs.declared.Value.{Value}
-use Rattle.pv_rules.specs.Settings.{plain}
 use Rattle.pv_rules.specs.declared.Collection.{Collection}
 use Rattle.pv_rules.specs.declared.Collection.TheVariants as kinds
 use Rattle.pv_rules.specs.declared.GatherRule.{GatherRule}
@@ -18,16 +17,19 @@ use Rattle.pv_fault.specs.Single.{one_error}
 use Rattle.pv_node.specs.declared.Node.{Node}
 use Rattle.pv_node.specs.declared.Body.{Body}
 use Rattle.pv_node.specs.declared.Body.TheOpen.{Body-F}
-use Rattle.pv_node.specs.Absent.{or_any}
-use Rattle.pv_node.specs.Preorder.{body_of}
-use Rattle.pv_plan.specs.Records.{own_strict}
+use Rattle.pv_node.specs.Places.{Slot, Place, body_of, slots, slots_of, places, places_of, root_place, items_slot, position_slots, keys_slot, values_slot, inner_slot}
+use Rattle.pv_plan.specs.Records.{Stands, all_places, any_place, child_at, children_of, own_strict}
+use Rattle.pv_plan.proofs.Absent.{any_body}
+use Rattle.pv_plan.proofs.Placed.{stands}
 use Rattle.pv_scalar.specs.Tests.{Graded, outcome_of}
 use Rattle.pv_scalar.specs.Scalars.{scalar_of, answer_of}
 use Rattle.pv_collect.specs.Gathering.{Part, Pair, items_errors, missing_of, wanted, measured, unless_errors, type_error, pair_errors, gather_items, gather_pairs}
 use Rattle.pv_engine.specs.Rules.{Child, part, placed, pair, sequence, sequence_in, tuple, tuple_in, dict, dict_in, first, second, collection, collection_of, nullable, nullable_in}
-use Rattle.pv_engine.specs.Meaning.{meaning, node, node_at, strict_in}
+use Rattle.pv_engine.specs.Meaning.{meaning, meaning_at, node, node_at, by_slot, strict_in}
 use Rattle.pv_laws.specs.Located.{IsOutcomeOf}
-use Rattle.pv_laws.proofs.Each.{each_append}
+use Rattle.pv_laws.specs.Locations.{keeps_locations, KeepsLocations}
+use Rattle.pv_laws.proofs.Each.{each_append, found_is}
+use Rattle.std.specs.Option.{IfSome}
 use Rattle.pv_laws.proofs.LocatedParts.{IsAt, Locates, AreParts, here, items_located, sequence_parts, tuple_parts, missing_located, pairs_located}
 
 -- one error at the tree itself
@@ -100,21 +102,47 @@ scalar_located : (t : Tree) (answer : Graded Value) → IsOutcomeOf t (outcome_o
 scalar_located t (Ok x) = tt
 scalar_located t (Err k) = one_located k t
 
-all_locate : (child : Node → Child) → ((n : Node) → Locates (child n)) → (ns : List Node) → AllByRecursion Locates (map child ns)
-all_locate child is [] = tt
-all_locate child is (n ∷ ns) = (is n, all_locate child is ns)
-
--- a node whose children have their errors located
-body_located : (run : Option Bool) (child : Node → Child) → ((n : Node) → Locates (child n)) → (strict : Bool) (b : Body-F Body Node) → Locates (node_at run child strict b)
+-- a place whose children have their errors located
+body_located : (run : Option Bool) (child : Place → Child) (root : Node) (place : Place) (b : Body-F Body Node) → keeps_locations b ≡ true
+    → AllByRecursion Locates (map (by_slot run child root place) (slots b)) → Locates (node_at run child root place b)
 unfolding scalar_of nullable
-body_located run child is strict (Body-F.Scalar r) t = scalar_located t (answer_of r plain (strict_in run strict) t)
-body_located run child is strict (Body-F.Sequence r items) t = collection_located r (child (or_any items) ∷ []) (is (or_any items), tt) t
-body_located run child is strict (Body-F.Tuple r items) t = collection_located r (map child items) (all_locate child is items) t
-body_located run child is strict (Body-F.Dict r keys values) t =
-    collection_located r (child (or_any keys) ∷ child (or_any values) ∷ []) (is (or_any keys), (is (or_any values), tt)) t
-body_located run child is strict (Body-F.Nullable inner) t = nullable_located (child inner) (is inner) t (out-Tree t)
+body_located run child root place (Body-F.Scalar r) keeps are t = scalar_located t (answer_of r place.settings (strict_in run (own_strict place)) t)
+body_located run child root place (Body-F.Sequence r items) keeps are t = collection_located r (map (by_slot run child root place) (items_slot items ∷ [])) are t
+body_located run child root place (Body-F.Tuple r items) keeps are t = collection_located r (map (by_slot run child root place) (position_slots 0 items)) are t
+body_located run child root place (Body-F.Dict r keys values) keeps are t = collection_located r (map (by_slot run child root place) (keys_slot keys ∷ values_slot values ∷ [])) are t
+body_located run child root place (Body-F.Nullable inner) keeps are t = nullable_located (by_slot run child root place (inner_slot inner)) are.0 t (out-Tree t)
 
-pub outcome_is_located : (run : Option Bool) (depth : ℕ) (schema : Node) (document : Tree) → IsOutcomeOf document (meaning run depth schema document)
-unfolding meaning node
-outcome_is_located run zero schema document = one_located kind.RecursionLoop document
-outcome_is_located run (suc depth) schema document = body_located run (meaning run depth) (outcome_is_located run depth) (own_strict schema) (body_of schema) document
+-- what holds at the ends of numbers holds of the places that they lead to
+led : (look : ℕ → Option Place) (P : Place → Type 0) → ((i : ℕ) (q : Place) → look i ≡ Some q → P q) → (cs : List ℕ) (qs : List Place) → map look cs ≡ map Some qs → AllByRecursion P qs
+led look P h [] [] e = tt
+led look P h [] (q ∷ qs) e = absurd (let l = ap length e in omega (arith, l))
+led look P h (c ∷ cs) [] e = absurd (let l = ap length e in omega (arith, l))
+led look P h (c ∷ cs) (q ∷ qs) e = (h c q (ap (λ xs. get_or xs 0 None) e), led look P h cs qs (ap (drop 1) e))
+
+of_slots : (P : Child → Type 0) (f : Place → Child) (g : Slot Node → Place) (ss : List (Slot Node)) → AllByRecursion (λ q. P (f q)) (map g ss) → AllByRecursion P (map (λ slot. f (g slot)) ss)
+of_slots P f g [] h = tt
+of_slots P f g (slot ∷ ss) h = (h.0, of_slots P f g ss h.1)
+
+abbrev Keeps : Place → Type 0
+Keeps place = keeps_locations (body_of place.node) ≡ true
+
+module _ (run : Option Bool) (root : Node) (keeps : KeepsLocations root) where
+  all_keep : AllByRecursion Keeps (all_places root)
+  all_keep = each_append Keeps (places root) (any_place ∷ []) keeps (ap keeps_locations any_body, tt)
+
+  keeps_at : (i : ℕ) (place : Place) → slice_get (all_places root) i ≡ Some place → Keeps place
+  keeps_at i place here = subst (λ o. IfSome o Keeps) here (found_is Keeps (all_places root) i all_keep)
+
+  located_at : (depth i : ℕ) (place : Place) → slice_get (all_places root) i ≡ Some place → Locates (meaning_at run root depth place)
+  unfolding meaning_at node Stands
+  located_at zero i place here document = one_located kind.RecursionLoop document
+  located_at (suc depth) i place here document =
+      let at = stands root i place here in
+      let next = meaning_at run root depth in
+      let children = led (slice_get (all_places root)) (λ q. Locates (next q)) (located_at depth) at.0.children (children_of root place) at.2.children in
+      body_located run next root place (body_of place.node) (keeps_at i place here)
+      (of_slots Locates next (child_at place) (slots_of place.node) children) document
+
+pub outcome_is_located : (run : Option Bool) (depth : ℕ) (schema : Node) (document : Tree) → KeepsLocations schema → IsOutcomeOf document (meaning run depth schema document)
+unfolding places_of
+outcome_is_located run depth schema document keeps = located_at run schema keeps depth 0 (root_place schema) refl document

@@ -1,3 +1,4 @@
 pub mod Located
+pub mod Locations
 pub mod Kept
 pub mod Patterns

@@ -5,11 +5,13 @@ ghost use Rattle.pv_tree.specs.declared.Tree.{Tree};
 ghost use Rattle.pv_node.specs.declared.Node.{Node};
 ghost use Rattle.pv_engine.specs.Meaning.{meaning};
 ghost use Rattle.pv_laws.specs.Located.{IsOutcomeOf};
+ghost use Rattle.pv_laws.specs.Locations.{KeepsLocations};
 
 /// A document that is not valid has at least one error, and the location of each error leads to its
 /// input: a part of the document, an array that lacks the item at the location, or a member's key.
+/// So it is of schemas whose nodes leave locations as they are.
 #[tactic(auto, using(crate::proofs::Locating::outcome_is_located))]
 pub fn errors_are_located()
     ensures { (run : Option Bool) (depth : ℕ) (schema : Node) (document : Tree) →
-        IsOutcomeOf document (meaning run depth schema document) }
+        KeepsLocations schema → IsOutcomeOf document (meaning run depth schema document) }
 {}

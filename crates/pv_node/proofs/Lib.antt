@@ -7,3 +7,4 @@ pub mod Preorder
 pub mod Lending
 pub mod Clear
 pub mod Outward
+pub mod Written

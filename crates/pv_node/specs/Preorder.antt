@@ -16,7 +16,8 @@ node_count root = length (places root)
 
 -- the path of the first node of a schema that passes a test
 unfoldable pub first_path : (Node → Bool) → Node → Option Path
-first_path test root = option_map (λ place. place.path) (find (λ place. test place.node) (places root))
+first_path test root =
+    option_map (λ place. place.path) (find (λ place. test place.node) (places root))
 
 -- what is there, as a list
 abbrev pub optional : {X : Type 0} → Option X → List X

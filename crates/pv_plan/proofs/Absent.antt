@@ -14,7 +14,7 @@ use Rattle.pv_plan.specs.declared.record.Record.{Record}
 use Rattle.pv_plan.specs.Records.{op_of, own_strict, any_place}
 use Rattle.pv_plan.specs.Layout.{numbers, record_at}
 
-any_body : body_of any ≡ Body-F.Scalar rule.Any
+pub any_body : body_of any ≡ Body-F.Scalar rule.Any
 any_body =
     ap (λ n. out-Body n.body) (out-roll-Node (record { own_ref = None; strict = None; body = body.Scalar rule.Any }))
     ∙ ap out-Body (sym (rolls-Scalar rule.Any)) ∙ out-roll-Body (Body-F.Scalar rule.Any)

@@ -1,10 +1,13 @@
 -- The table of a schema: record by record, in the order of its places, and one more for absent
 -- schemas.
-use Rattle.std.specs.Prelude.{ℕ, ◌+◌, List, [], ◌∷◌, Option, Some, None}
+use Rattle.std.specs.Prelude.{◌≡◌, ℕ, ◌+◌, false, List, [], ◌∷◌, ◌++◌, length, Option, Some, None}
+use Rattle.pv_rules.specs.Settings.{plain}
+use Rattle.pv_rules.specs.declared.ScalarRule.TheVariants as rule
 use Rattle.pv_node.specs.declared.Node.{Node}
 use Rattle.pv_node.specs.Places.{Slot, Place, slots_of}
 use Rattle.pv_node.specs.Preorder.{count_at, node_count}
 use Rattle.pv_plan.specs.Records.{op_at, own_strict, all_places}
+use Rattle.pv_plan.specs.declared.record.Op.TheVariants as op
 use Rattle.pv_plan.specs.declared.record.Record.{Record}
 
 -- the number of a child schema that stands at this number, or that of the last record for an absent
@@ -16,7 +19,8 @@ number_of last at (Some n) = at
 -- the numbers of child schemas that stand one after another, the first at this number
 abbrev pub numbers : ℕ → ℕ → List (Slot Node) → List ℕ
 numbers last at [] = []
-numbers last at (slot ∷ ss) = number_of last at slot.node ∷ numbers last (at + count_at slot.node) ss
+numbers last at (slot ∷ ss) =
+    number_of last at slot.node ∷ numbers last (at + count_at slot.node) ss
 
 -- the record of a place, by its number and by the numbers of its children
 abbrev pub record_with : Node → ℕ → Place → List ℕ → Record
@@ -37,6 +41,28 @@ unfoldable pub table_from : Node → ℕ → ℕ → List Place → List Record
 table_from root last at [] = []
 table_from root last at (place ∷ ps) =
     record_at root last at place ∷ table_from root last (at + 1) ps
+
+-- a table grew by the records of these places
+abbrev pub Grows : Node → ℕ → List Record → List Record → List Place → Type 0
+Grows root last old new ps = new ≡ old ++ table_from root last (length old) ps
+
+-- a record with these children
+abbrev pub with_children : Record → List ℕ → Record
+with_children r children = record {
+  op = r.op;
+  children = children;
+  strict = r.strict;
+  validate_default = r.validate_default;
+}
+
+-- the record that stands for absent schemas: it takes any value
+abbrev pub absent_record : Record
+absent_record = record {
+  op = op.Scalar (rule.Any, plain);
+  children = [];
+  strict = false;
+  validate_default = false;
+}
 
 -- the records of a whole schema
 unfoldable pub table_of : Node → List Record

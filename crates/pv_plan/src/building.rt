@@ -1,9 +1,8 @@
 //! From a schema to its plan.
 
-ghost use Rattle.std.specs.Prelude.{◌≡◌, ◌≤◌, [], ◌∷◌, ◌++◌, false, IfOk, OnOk};
-ghost use Rattle.pv_rules.specs.Settings.{plain};
+ghost use Rattle.std.specs.Prelude.{◌≡◌, ◌≤◌, [], ◌∷◌, ◌++◌, IfOk, OnOk};
 ghost use Rattle.pv_node.specs.Preorder.{node_count};
-ghost use Rattle.pv_plan.specs.Layout.{table_of};
+ghost use Rattle.pv_plan.specs.Layout.{absent_record, table_of};
 ghost use Rattle.pv_plan.specs.BadPatterns.{bad_pattern};
 ghost use Rattle.pv_plan.specs.Faults.{Finds};
 
@@ -20,7 +19,7 @@ use std::alloc::Global;
 
 /// The record that stands for absent schemas: it takes any value.
 fn any(alloc: Global) -> Result<Record, Memory>
-    ensures { IfOk result (λ r. r ≡ record { op = Op.Scalar (ScalarRule.Any, plain); children = []; strict = false; validate_default = false }) }
+    ensures { IfOk result (λ r. r ≡ absent_record) }
 {
     match Scalar::build(alloc, &ScalarRule::Any, &Settings::plain()) {
         Ok(scalar) => Ok(Record {
@@ -35,7 +34,7 @@ fn any(alloc: Global) -> Result<Record, Memory>
 
 /// Puts the record that stands for absent schemas at the end.
 fn push_any(alloc: Global, table: &mut Vec<Record>) -> Result<(), Memory>
-    ensures { OnOk result (table.new.items ≡ table.old.items ++ record { op = Op.Scalar (ScalarRule.Any, plain); children = []; strict = false; validate_default = false } ∷ []) }
+    ensures { OnOk result (table.new.items ≡ table.old.items ++ absent_record ∷ []) }
 {
     let record = any(alloc)?;
     match table.push(record) {

@@ -6,7 +6,7 @@ ghost use Rattle.pv_node.specs.Places.{Path, place_at, places_in, places_of, slo
 ghost use Rattle.pv_node.specs.Preorder.{first_in};
 ghost use Rattle.pv_node.specs.Lending.{lent};
 ghost use Rattle.pv_plan.specs.declared.record.Record.{Record as RecordValue};
-ghost use Rattle.pv_plan.specs.Layout.{number_of, numbers, record_with, table_from};
+ghost use Rattle.pv_plan.specs.Layout.{Grows, number_of, numbers, record_with, with_children};
 ghost use Rattle.pv_plan.specs.BadPatterns as spec;
 ghost use Rattle.pv_plan.specs.BadPatterns.{bad_in, bad_itself, has_bad_pattern};
 ghost use Rattle.pv_plan.specs.Faults.{Finds};
@@ -44,7 +44,7 @@ fn size(table: &Vec<Record>) -> usize
 fn settle(table: &mut Vec<Record>, at: usize, children: Items<u32>)
     requires { at < length table.old.items }
     ensures { (r : RecordValue) → slice_get table.old.items at ≡ Some r →
-        table.new.items ≡ slice_set table.old.items at (record { op = r.op; children = children; strict = r.strict; validate_default = r.validate_default }) }
+        table.new.items ≡ slice_set table.old.items at (with_children r children) }
 {
     table[at].children = children;
 }
@@ -79,7 +79,8 @@ impl Laying<'_> {
         settings: &Settings,
     ) -> Result<(), BuildFault>
         ensures table { OnOk result ((p : Path) → table.new.items ≡ table.old.items
-            ++ record_with self.now.root.now (length table.old.items) (place_at p node.now settings.now) [] ∷ []) }
+            ++ record_with self.now.root.now (length table.old.items)
+            (place_at p node.now settings.now) [] ∷ []) }
         ensures pattern { Finds result (bad_itself (has_bad_pattern node.now)) }
     {
         let op = operation(self.alloc, &node.body, settings)?;
@@ -105,8 +106,8 @@ impl Laying<'_> {
         node: &Node,
         settings: &Settings,
     ) -> Result<u32, BuildFault>
-        ensures table { OnOk result ((p : Path) → table.new.items ≡ table.old.items
-            ++ table_from self.now.root.now self.now.last (length table.old.items) (places_of p node.now settings.now)) }
+        ensures table { OnOk result ((p : Path) → Grows self.now.root.now self.now.last
+            table.old.items table.new.items (places_of p node.now settings.now)) }
         ensures number { IfOk result (λ n. n ≡ length table.old.items) }
         ensures pattern { Finds result (spec.bad_pattern node.now) }
     {
@@ -128,9 +129,10 @@ impl Laying<'_> {
         settings: &Settings,
         all: &mut Items<u32>,
     ) -> Result<(), BuildFault>
-        ensures table { OnOk result ((p : Path) → table.new.items ≡ table.old.items
-            ++ table_from self.now.root.now self.now.last (length table.old.items) (flat_map (places_in p settings.now) (slots_of node.now))) }
-        ensures numbers { OnOk result (all.new ≡ all.old ++ numbers self.now.last (length table.old.items) (slots_of node.now)) }
+        ensures table { OnOk result ((p : Path) → Grows self.now.root.now self.now.last
+            table.old.items table.new.items (flat_map (places_in p settings.now) (slots_of node.now))) }
+        ensures numbers { OnOk result (all.new ≡ all.old
+            ++ numbers self.now.last (length table.old.items) (slots_of node.now)) }
         ensures pattern { Finds result (first_in bad_in (slots_of node.now)) }
     {
         for place in 0..usize::MAX {
@@ -152,9 +154,10 @@ impl Laying<'_> {
         settings: &Settings,
         all: &mut Items<u32>,
     ) -> Result<(), BuildFault>
-        ensures table { OnOk result ((p : Path) → table.new.items ≡ table.old.items
-            ++ table_from self.now.root.now self.now.last (length table.old.items) (places_in p settings.now (lent slot.now))) }
-        ensures number { OnOk result (all.new ≡ all.old ++ number_of self.now.last (length table.old.items) (lent slot.now).node ∷ []) }
+        ensures table { OnOk result ((p : Path) → Grows self.now.root.now self.now.last
+            table.old.items table.new.items (places_in p settings.now (lent slot.now))) }
+        ensures number { OnOk result (all.new ≡ all.old
+            ++ number_of self.now.last (length table.old.items) (lent slot.now).node ∷ []) }
         ensures pattern { Finds result (bad_in (lent slot.now)) }
     {
         let Some(node) = slot.node else {

@@ -1,5 +1,5 @@
 -- What a node asks for is allowed, by its type, where nothing is wrong with the node.
-use Rattle.std.proofs.Common.{◌≡◌, ℕ, ◌<◌, true, false, List, [], length, codes, Option, None, Some, is_some, option_map, flat_map, refl, ap, sym, ◌∙◌, subst, ltb-true, IsTrue}
+use Rattle.std.proofs.Common.{◌≡◌, ℕ, ◌<◌, true, false, List, [], ◌++◌, length, codes, Option, None, Some, is_some, option_map, flat_map, refl, ap, sym, ◌∙◌, subst, ltb-true, IsTrue}
 use Rattle.std.proofs.lemmas.Bool.{false≢true}
 use Rattle.std.proofs.lemmas.List.{length-map}
 use Rattle.std.proofs.lemmas.Grind.{flat_map-append}
@@ -17,7 +17,10 @@ use Rattle.pv_node.specs.declared.Body.{Body, out-Body, roll-Body, out-roll-Body
 use Rattle.pv_node.specs.declared.Body.TheVariants as body
 use Rattle.pv_node.specs.declared.Body.TheVariants.{rolls-Scalar, rolls-Sequence, rolls-Tuple, rolls-Dict, rolls-Nullable}
 use Rattle.pv_node.specs.declared.Body.TheOpen.{Body-F}
-use Rattle.pv_node.specs.Preorder.{preorder, parts_at, optional}
+use Rattle.pv_node.specs.Places.{position_slots, slots}
+use Rattle.pv_node.specs.Preorder.{preorder, optional, written}
+use Rattle.pv_node.proofs.Written.{positions_written}
+use Rattle.std.proofs.lemmas.List.{append-nil}
 use Rattle.pv_tree.specs.Parts.{items_at}
 use Rattle.pv_node.specs.Absent.{or_any}
 use Rattle.pv_schema_values.specs.Values.{literals_of, members_of, count_of, sub_type_of}
@@ -34,9 +37,13 @@ use Rattle.pv_schema.proofs.MakeOpens.{nodes_opens}
 use Rattle.pv_schema.proofs.AllowedValues.{AreMembers, or_empty_is, counts, versions, positives, texts, literals, members}
 use Rattle.pv_schema.proofs.AllowedKeys.{IsRight, right, each_append, is_there, schema_right, schemas_right, value_right, is_literals, is_members}
 
+-- the nodes of some schemas are allowed
+abbrev AreAllAllowed : List Node → Type 0
+AreAllAllowed ns = AllByRecursion IsAllowed (flat_map preorder ns)
+
 -- what a node asks for is allowed, and so are the nodes inside
 abbrev pub IsWhole : Body-F Body Node → Type 0
-IsWhole b = IsAllowedBody b × AllByRecursion IsAllowed (flat_map preorder (parts_at b))
+IsWhole b = IsAllowedBody b × AllByRecursion IsAllowed (flat_map preorder (written (slots b)))
 
 rolled : (b : Body) (x : Body-F Body Node) → roll-Body x ≡ b → IsWhole x → IsWhole (out-Body b)
 rolled b x e = subst IsWhole (sym (ap out-Body (sym e) ∙ out-roll-Body x))
@@ -102,7 +109,7 @@ module _ (ms : List (List ℕ × Tree)) where
       → IsWhole (out-Body (body.Sequence (gather_rule at k) (node_at (codes "items_schema"))))
   sequence k is h =
       rolled _ (Body-F.Sequence (gather_rule at k) (node_at (codes "items_schema"))) (rolls-Sequence (gather_rule at k) (node_at (codes "items_schema")))
-      ((is, no_positions k), schema_right (at (codes "items_schema")) h)
+      ((is, no_positions k), subst AreAllAllowed (sym (append-nil (optional (node_at (codes "items_schema"))))) (schema_right (at (codes "items_schema")) h))
 
   tuple : is_some (at (codes "items_schema")) ≡ true → IfSome (at (codes "items_schema")) (IsRight (Some kind.Schemas))
       → misfits (λ t. t) checked node.Tuple ms ≡ []
@@ -111,7 +118,7 @@ module _ (ms : List (List ℕ × Tree)) where
       let positions = nodes_at (codes "items_schema") in
       rolled _ (Body-F.Tuple (tuple_rule at (length positions)) positions) (rolls-Tuple (tuple_rule at (length positions)) positions) (
         record { kind = refl; positions = refl; variadic = place_is _ (at (codes "variadic_item_index")) (at (codes "items_schema")) there e; bounds = bounds },
-        schemas_right (at (codes "items_schema")) h,
+        subst AreAllAllowed (sym (positions_written 0 positions)) (schemas_right (at (codes "items_schema")) h),
       )
 
   dict : IfSome (at (codes "keys_schema")) (IsRight (Some kind.Schema)) → IfSome (at (codes "values_schema")) (IsRight (Some kind.Schema))
@@ -121,8 +128,9 @@ module _ (ms : List (List ℕ × Tree)) where
       let values = node_at (codes "values_schema") in
       rolled _ (Body-F.Dict (gather_rule at collection.Dict) keys values) (rolls-Dict (gather_rule at collection.Dict) keys values) (
         (refl, no_positions collection.Dict),
-        subst (AllByRecursion IsAllowed) (sym (flat_map-append preorder (optional keys) (optional values)))
-            (each_append IsAllowed _ _ (schema_right (at (codes "keys_schema")) h) (schema_right (at (codes "values_schema")) k)),
+        subst (λ ns. AreAllAllowed (optional keys ++ ns)) (sym (append-nil (optional values)))
+            (subst (AllByRecursion IsAllowed) (sym (flat_map-append preorder (optional keys) (optional values)))
+            (each_append IsAllowed _ _ (schema_right (at (codes "keys_schema")) h) (schema_right (at (codes "values_schema")) k))),
       )
 
   nullable : (o : Option Tree) → is_some o ≡ true → IfSome o (IsRight (Some kind.Schema)) → IsWhole (out-Body (body.Nullable (or_any (option_map node_of o))))

@@ -11,7 +11,7 @@ use Rattle.pv_tree.specs.declared.Tree.TheFolds.{ind-Tree}
 use Rattle.pv_node.specs.declared.Node.{Node, roll-Node, out-roll-Node}
 use Rattle.pv_node.specs.declared.Body.{Body, out-Body}
 use Rattle.pv_node.specs.Preorder.{preorder}
-use Rattle.pv_node.proofs.Openings.{opens}
+use Rattle.pv_node.proofs.Preorder.{preorder_opens}
 use Rattle.pv_schema.specs.Table.{rows, kind_under}
 use Rattle.pv_schema.specs.Checking.{schema_faults, member_faults, members_faults, places_faults, rest_faults, missing_in, misfits, checked, type_among, schema_in, schemas_in}
 use Rattle.pv_schema.specs.Making.{node_of, body_in, members_node, node_in, nodes_in}
@@ -31,7 +31,7 @@ with_body strict b = roll-Node (record { own_ref = None; strict = strict; body =
 
 node_is : (strict : Option Bool) (b : Body) → IsWhole (out-Body b) → AllByRecursion IsAllowed (preorder (with_body strict b))
 node_is strict b h =
-    subst (AllByRecursion IsAllowed) (sym (opens (with_body strict b)))
+    subst (AllByRecursion IsAllowed) (sym (preorder_opens (with_body strict b)))
     (subst IsWhole (sym (ap (λ n. out-Body n.body) (out-roll-Node (record { own_ref = None; strict = strict; body = b })))) h)
 
 members_are : (r : Result NodeType Refusal) (ms : List (List ℕ × Tree)) → AllByRecursion (λ m. IsSound m.1) ms → members_faults r ms ≡ []

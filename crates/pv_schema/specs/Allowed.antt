@@ -13,7 +13,8 @@ use Rattle.pv_rules.specs.declared.Collection.TheVariants as collection
 use Rattle.pv_rules.specs.declared.GatherRule.{GatherRule}
 use Rattle.pv_node.specs.declared.Node.{Node}
 use Rattle.pv_node.specs.declared.Body.TheOpen.{Body-F}
-use Rattle.pv_node.specs.Preorder.{body_of, preorder}
+use Rattle.pv_node.specs.Places.{body_of}
+use Rattle.pv_node.specs.Preorder.{preorder}
 use Rattle.pv_schema_values.specs.Values.{are_members}
 use Rattle.pv_schema.specs.Checking.{all_are_of}
 

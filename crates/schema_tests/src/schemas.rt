@@ -35,7 +35,7 @@ fn a_schema_has_a_hundred_thousand_nodes_at_most(rt: HostRuntime) {
     let Ok(largest) = read_schema(alloc, &tuple_of(&rt, alloc, 99_999)) else {
         panic!(rt; "refused");
     };
-    let shared = largest.share(alloc).expect(&rt, "memory");
+    let shared = largest.share().expect(&rt, "memory");
     let count = count_nodes(shared.root()).expect(&rt, "memory");
     assert_eq!(rt; count, MAX_NODES);
     let larger = read_schema(alloc, &tuple_of(&rt, alloc, 100_000));
