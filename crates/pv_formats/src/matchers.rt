@@ -10,9 +10,6 @@ use std::alloc::Global;
 use std::collections::BTreeMap;
 use std::marker::Model;
 
-/// A matcher grows to some megabytes at worst, so no more than this many are kept at a time.
-const MOST_KEPT: usize = 64;
-
 /// A matcher beside the pattern that it is of. It is seen as the text of the pattern.
 #[derive(Drop)]
 struct Kept<'a> {
@@ -100,10 +97,6 @@ impl<'a> Matchers<'a> {
     }
 
     fn keep(&mut self, kept: Kept<'a>) -> Result<(), Memory> {
-        if self.kept.len() >= MOST_KEPT {
-            self.kept.clear();
-            self.places.clear();
-        }
         self.places.insert(kept.pattern.as_str(), self.kept.len())?;
         self.kept.push(kept)?;
         Ok(())
