@@ -6,7 +6,6 @@ use Rattle.pv_tree.specs.declared.Step.TheVariants.{Name, Index}
 use Rattle.pv_tree.specs.declared.Tree.{Tree}
 use Rattle.pv_tree.specs.declared.Tree.TheVariants as tree
 use Rattle.pv_tree.specs.declared.Value.{Value}
-use Rattle.pv_tree.specs.declared.Value.TheVariants as value
 use Rattle.pv_rules.specs.declared.Collection.{Collection}
 use Rattle.pv_rules.specs.declared.GatherRule.{GatherRule}
 use Rattle.pv_fault.specs.declared.Grade.{Grade}
@@ -19,8 +18,8 @@ use Rattle.pv_fault.specs.declared.Outcome.TheVariants.{Good, Bad}
 use Rattle.pv_fault.specs.Single.{error_here, one_error}
 use Rattle.pv_fault.specs.Under.{all_under, outcome_under}
 use Rattle.pv_equality.specs.Hashable.{hashable}
-use Rattle.pv_collect.specs.Gathering.{Part, Pair, own_grade, needs_hash, errors_of, item_errors, items_errors, key_errors, pair_errors, missing_of, wanted, length_fault, outcomes_in, kept, made_of, measured, unless_errors, gather_items, gather_pairs}
-use Rattle.pv_collect.specs.Kept.{Kept, good_of, nothing_kept, item_kept, entry_kept, kept_of_items, kept_of_pairs, fitting, finished_items, finished_entries}
+use Rattle.pv_collect.specs.Gathering.{Part, Pair, own_grade, needs_hash, errors_of, item_errors, items_errors, key_errors, pair_errors, missing_of, wanted, outcomes_in, kept, measured, unless_errors, gather_items, gather_pairs}
+use Rattle.pv_collect.specs.Kept.{Kept, good_of, nothing_kept, item_kept, entry_kept, kept_of_items, fitting, finished_items, finished_entries}
 use Rattle.pv_collect.proofs.Parts.{item_errors_more, pair_errors_more, empty_first, empty_second, empty_under, item_kept_more, entry_kept_more}
 use Rattle.pv_engine.specs.declared.out.Out.{Out}
 use Rattle.pv_engine.specs.Walks.{Adds, written, Walked, Walks}

@@ -1,5 +1,5 @@
 -- Turns of the loops over the parts of a collection.
-use Rattle.std.proofs.Common.{◌≡◌, ℕ, Bool, true, false, eqb, zero, suc, ◌+◌, ◌-◌, ◌<◌, ◌≤◌, List, [], ◌∷◌, ◌++◌, map, length, take, drop, get_or, Option, Some, None, slice_get, refl, sym, ap, subst, ◌∙◌, add-one, append_assoc, arith}
+use Rattle.std.proofs.Common.{◌≡◌, ℕ, Bool, true, false, eqb, zero, suc, ◌+◌, ◌<◌, ◌≤◌, List, [], ◌∷◌, ◌++◌, map, length, take, drop, get_or, Option, Some, None, slice_get, refl, sym, ap, subst, ◌∙◌, add-one, arith}
 use Rattle.std.proofs.lemmas.Bool.{false≢true, eqb-true}
 use Rattle.std.proofs.lemmas.List.{nil_from_length, drop_more, take_more, take_all, map-append, length-map, length-take-le}
 use Rattle.pv_tree.specs.declared.Step.TheVariants.{Index}
@@ -10,9 +10,8 @@ use Rattle.pv_rules.specs.declared.GatherRule.{GatherRule}
 use Rattle.pv_fault.specs.declared.Good as good
 use Rattle.pv_fault.specs.declared.Kind.TheVariants as kind
 use Rattle.pv_fault.specs.declared.LineError.{LineError}
-use Rattle.pv_fault.specs.declared.Outcome.{Outcome}
 use Rattle.pv_fault.specs.Under.{outcome_under}
-use Rattle.pv_collect.specs.Gathering.{Part, Pair, missing_from}
+use Rattle.pv_collect.specs.Gathering.{Part, missing_from}
 use Rattle.pv_collect.specs.Kept.{Kept, item_kept, entry_kept}
 use Rattle.pv_engine.specs.declared.out.Out.{Out}
 use Rattle.pv_engine.specs.Walks.{Adds, Walked}

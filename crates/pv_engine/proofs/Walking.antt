@@ -1,18 +1,14 @@
 -- Steps on the path, and errors that are added below it.
-use Rattle.std.proofs.Common.{◌≡◌, ℕ, ◌+◌, List, [], ◌∷◌, ◌++◌, Option, Some, None, map, length, take, refl, sym, ap, subst, ◌∙◌, append-nil, append_assoc, arith}
+use Rattle.std.proofs.Common.{◌≡◌, ℕ, List, [], ◌∷◌, ◌++◌, Option, Some, None, length, take, refl, sym, ap, subst, ◌∙◌, append-nil, append_assoc, arith}
 use Rattle.std.proofs.Math.Seq.{take-append_seam}
 use Rattle.std.proofs.lemmas.List.{map-append, nil_from_length, length-map, length-append}
 use Rattle.pv_tree.specs.declared.Step.{Step}
-use Rattle.pv_tree.specs.declared.Step.TheVariants as step
-use Rattle.pv_tree.specs.declared.Tree.{Tree}
 use Rattle.pv_fault.specs.declared.LineError.{LineError}
-use Rattle.pv_fault.specs.declared.Kind.TheVariants as kind
 use Rattle.pv_fault.specs.declared.Good as good
 use Rattle.pv_fault.specs.declared.Outcome.{Outcome}
 use Rattle.pv_fault.specs.declared.Outcome.TheVariants.{Good, Bad}
-use Rattle.pv_fault.specs.Single.{one_error}
 use Rattle.pv_fault.specs.Under.{under, all_under, at_path, all_at_path, outcome_under}
-use Rattle.pv_collect.specs.Gathering.{errors_of, missing_from}
+use Rattle.pv_collect.specs.Gathering.{errors_of}
 use Rattle.pv_collect.specs.Kept.{good_of}
 use Rattle.pv_engine.specs.declared.out.Out.{Out}
 use Rattle.pv_engine.specs.Walks.{Adds, written, Walked, outcome_of}

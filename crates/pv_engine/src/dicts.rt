@@ -20,9 +20,11 @@ use pv_rules::GatherRule;
 use pv_text::{Memory, Text};
 use pv_tree::{Step, Tree};
 
-impl<'s, 'a, F: Fn(&Scene<'a>, &mut Out<'a>, u64, u32, &Tree) -> Result<Option<Good>, Memory>>
-    Rules<'s, 'a, F>
-{
+impl<
+    's,
+    'a,
+    F: Fn(&Scene<'a>, &mut Out<'a>, u64, u32, &Tree) -> Result<Option<Good>, Memory>,
+> Rules<'s, 'a, F> {
     /// A name as a text by the child of the keys.
     fn key_here(
         &self,

@@ -15,9 +15,11 @@ use pv_rules::GatherRule;
 use pv_text::Memory;
 use pv_tree::{Step, Tree};
 
-impl<'s, 'a, F: Fn(&Scene<'a>, &mut Out<'a>, u64, u32, &Tree) -> Result<Option<Good>, Memory>>
-    Rules<'s, 'a, F>
-{
+impl<
+    's,
+    'a,
+    F: Fn(&Scene<'a>, &mut Out<'a>, u64, u32, &Tree) -> Result<Option<Good>, Memory>,
+> Rules<'s, 'a, F> {
     /// The error of a position that no item has.
     fn push_missing(&self, out: &mut Out<'a>, position: u64, tree: &Tree) -> Result<(), Memory>
         ensures { OnOk result (Adds out.old out.new (missing_from position 1 tree.now)) }

@@ -35,11 +35,13 @@ impl<'a> Out<'a> {
         ensures { result ≡ outcome_of self.entry found }
     {
         match found {
-            Some(Good {
-                value,
-                grade,
-                fields,
-            }) => Outcome::Good {
+            Some(
+                Good {
+                    value,
+                    grade,
+                    fields,
+                },
+            ) => Outcome::Good {
                 value,
                 grade,
                 fields,

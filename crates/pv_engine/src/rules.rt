@@ -25,9 +25,11 @@ pub(crate) struct Rules<'s, 'a, F> {
     pub(crate) below: F,
 }
 
-impl<'s, 'a, F: Fn(&Scene<'a>, &mut Out<'a>, u64, u32, &Tree) -> Result<Option<Good>, Memory>>
-    Rules<'s, 'a, F>
-{
+impl<
+    's,
+    'a,
+    F: Fn(&Scene<'a>, &mut Out<'a>, u64, u32, &Tree) -> Result<Option<Good>, Memory>,
+> Rules<'s, 'a, F> {
     /// The record of this number, one level further down.
     pub(crate) fn child(
         &self,

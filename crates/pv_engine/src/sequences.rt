@@ -19,9 +19,11 @@ use pv_rules::{Collection, GatherRule};
 use pv_text::Memory;
 use pv_tree::{Step, Tree};
 
-impl<'s, 'a, F: Fn(&Scene<'a>, &mut Out<'a>, u64, u32, &Tree) -> Result<Option<Good>, Memory>>
-    Rules<'s, 'a, F>
-{
+impl<
+    's,
+    'a,
+    F: Fn(&Scene<'a>, &mut Out<'a>, u64, u32, &Tree) -> Result<Option<Good>, Memory>,
+> Rules<'s, 'a, F> {
     /// An item by the first child.
     fn item_here(
         &self,

@@ -30,9 +30,11 @@ fn children_from<'c>(rule: &GatherRule, children: &'c [u32], items: u64, place: 
     }
 }
 
-impl<'s, 'a, F: Fn(&Scene<'a>, &mut Out<'a>, u64, u32, &Tree) -> Result<Option<Good>, Memory>>
-    Rules<'s, 'a, F>
-{
+impl<
+    's,
+    'a,
+    F: Fn(&Scene<'a>, &mut Out<'a>, u64, u32, &Tree) -> Result<Option<Good>, Memory>,
+> Rules<'s, 'a, F> {
     fn positions(
         &self,
         out: &mut Out<'a>,

@@ -27,11 +27,7 @@ fn put_one_at_path(alloc: Global, error: &mut LineError, path: &Loc) -> Result<(
 }
 
 /// Puts the steps of the path in front of the location of each error.
-pub(crate) fn put_at_path(
-    alloc: Global,
-    errors: &mut [LineError],
-    path: &Loc,
-) -> Result<(), Memory>
+pub(crate) fn put_at_path(alloc: Global, errors: &mut [LineError], path: &Loc) -> Result<(), Memory>
     ensures { OnOk result (errors.new ≡ map (at_path path.now) errors.old) }
 {
     for place in 0..errors.len() {
