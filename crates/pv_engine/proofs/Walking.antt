@@ -2,6 +2,8 @@
 use Rattle.std.proofs.Common.{◌≡◌, ℕ, List, [], ◌∷◌, ◌++◌, Option, Some, None, length, take, refl, sym, ap, subst, ◌∙◌, append-nil, append_assoc, arith}
 use Rattle.std.proofs.Math.Seq.{take-append_seam}
 use Rattle.std.proofs.lemmas.List.{map-append, nil_from_length, length-map, length-append}
+use Rattle.std.specs.Prelude.{Result, Ok, Err}
+use Rattle.pv_text.specs.declared.Memory.{Memory}
 use Rattle.pv_tree.specs.declared.Step.{Step}
 use Rattle.pv_fault.specs.declared.LineError.{LineError}
 use Rattle.pv_fault.specs.declared.Good as good
@@ -11,7 +13,7 @@ use Rattle.pv_fault.specs.Under.{under, all_under, at_path, all_at_path, outcome
 use Rattle.pv_collect.specs.Gathering.{errors_of}
 use Rattle.pv_collect.specs.Kept.{good_of}
 use Rattle.pv_engine.specs.declared.out.Out.{Out}
-use Rattle.pv_engine.specs.Walks.{Adds, written, Walked, outcome_of}
+use Rattle.pv_engine.specs.Walks.{Adds, written, Walked, Walks, outcome_of}
 
 -- THE LAW: a step at the end of the path is a step in front of each error
 step_past : (path : List Step) (s : Step) (es : List LineError) → all_at_path (path ++ s ∷ []) es ≡ all_at_path path (all_under s es)
@@ -106,6 +108,16 @@ walked_after old new next es found o p a none is w = record {
   errors = w.errors ∙ ap (λ q. written q new.errors o) a.path
       ∙ ap (λ xs. written old.path xs o) (a.errors ∙ ap (λ fs. old.errors ++ all_at_path old.path fs) none ∙ append-nil old.errors)
       ∙ ap (written old.path old.errors) (sym is);
+}
+
+-- a walk from a state whose errors and path are those of another
+pub walks_from : (old mid new : Out) (r : Result (Option good.Good) Memory) (o p : Outcome) → mid.path ≡ old.path → mid.errors ≡ old.errors → o ≡ p
+    → Walks mid new r o → Walks old new r p
+walks_from old mid new (Err m) o p path errors is w = tt
+walks_from old mid new (Ok found) o p path errors is w = record {
+  path = w.path ∙ path;
+  answer = w.answer ∙ ap good_of is;
+  errors = w.errors ∙ ap (λ q. written q mid.errors o) path ∙ ap (λ xs. written old.path xs o) errors ∙ ap (written old.path old.errors) is;
 }
 
 -- from the root

@@ -1,6 +1,7 @@
 //! What each kind of node gives, by what its children give.
 
 ghost use Rattle.std.specs.Prelude.{map, slice_get, ◌≡◌};
+ghost use Rattle.pv_scalar.specs.Scalars.{scalar_of};
 ghost use Rattle.pv_engine.specs.Rules as gives;
 ghost use Rattle.pv_engine.specs.Run as spec;
 ghost use Rattle.pv_engine.specs.Meaning.{strict_in};
@@ -13,7 +14,7 @@ use pv_collect::type_error;
 use pv_fault::{Good, Grade, Kind};
 use pv_plan::{Op, Record};
 use pv_rules::{Collection, GatherRule};
-use pv_scalar::scalar;
+use pv_scalar::{Scalar, scalar};
 use pv_text::Memory;
 use pv_tree::{Tree, Value};
 
@@ -125,6 +126,20 @@ impl<
         self.first(out, children, tree)
     }
 
+    /// A value without parts.
+    fn scalar_node(
+        &self,
+        out: &mut Out<'a>,
+        rule: &'a Scalar,
+        strict: bool,
+        tree: &Tree,
+    ) -> Result<Option<Good>, Memory>
+        ensures { Walks out.old out.new result (scalar_of rule.now.0 rule.now.1 strict tree.now) }
+    {
+        let outcome = scalar(self.scene.alloc, &mut out.matchers, rule, strict, tree)?;
+        out.put(outcome)
+    }
+
     fn strictness(&self, slot: &Record) -> bool
         ensures { result ≡ strict_in self.now.scene.now.run slot.now.strict }
     {
@@ -145,11 +160,7 @@ impl<
     {
         let children = slot.children.as_slice();
         match &slot.op {
-            Op::Scalar(rule) => {
-                let strict = self.strictness(slot);
-                let outcome = scalar(self.scene.alloc, &mut out.matchers, rule, strict, tree)?;
-                out.put(outcome)
-            }
+            Op::Scalar(rule) => self.scalar_node(out, rule, self.strictness(slot), tree),
             Op::Gather(rule) => self.collection(out, rule, children, tree),
             Op::Nullable => self.nullable(out, children, tree),
         }
