@@ -18,22 +18,9 @@ use Rattle.pv_distinct.specs.declared.token.Token.TheVariants as token
 use Rattle.pv_distinct.specs.Tokens.{bytes_cmp, token_cmp}
 use Rattle.pv_distinct.specs.Keys.{key, key_cmp}
 use Rattle.pv_distinct.specs.TokenOrder.{keys_total}
+use Rattle.pv_distinct.proofs.Alone.{then_equal, int_tokens, text_tokens}
 use Rattle.pv_distinct.proofs.Levels.{key_level}
 use Rattle.pv_distinct.proofs.Telling.{keys_tell}
-
--- of ordered parts the first alone decides, where the others are equal
-then_equal : (o : Ordering) → ordering_then o Equal ≡ o
-then_equal Less = refl
-then_equal Equal = refl
-then_equal Greater = refl
-
-pub int_tokens : (m n : ℤ) → token_cmp (token.Int m) (token.Int n) ≡ int_cmp m n
-unfolding token_cmp
-int_tokens m n = then_equal (number_cmp (int_number m) (int_number n)) ∙ ints_cmp m n
-
-pub text_tokens : (t u : List ℕ) → token_cmp (token.Str t) (token.Str u) ≡ bytes_cmp t u
-unfolding token_cmp
-text_tokens t u = ap (λ o. ordering_then o (ordering_then (bytes_cmp t u) Equal)) (ints_cmp (pos 0) (pos 0)) ∙ then_equal (bytes_cmp t u)
 
 -- the key of the first value is below that of the second
 abbrev pub Below : Value → Value → Type 0
