@@ -1,13 +1,11 @@
 -- Values that ascend, and so are distinct.
-use Rattle.std.proofs.Common.{◌≡◌, ◌||◌, ◌⊎◌, inl, inr, ◌-◌, ◌≤◌, ℕ, zero, suc, ◌+◌, ◌<◌, ℤ, true, false, List, [], ◌∷◌, length, get_or, refl, sym, ap, ◌∙◌, arith}
-use Rattle.std.specs.Prelude.{map, pos}
+use Rattle.std.proofs.Common.{◌≡◌, ◌||◌, ◌⊎◌, inl, inr, ◌-◌, ◌≤◌, ℕ, zero, suc, ◌+◌, ◌<◌, true, false, List, [], ◌∷◌, length, get_or, refl, sym, ap, ◌∙◌, arith}
+use Rattle.std.specs.Prelude.{map}
 use Rattle.std.proofs.lemmas.List.{get_or-map, length-map}
 use Rattle.std.specs.List.{AllByRecursion, list_any}
 use Rattle.std.specs.declared.cmp.Ordering.{Ordering}
 use Rattle.std.specs.declared.cmp.Ordering.TheVariants.{Less, Equal, Greater}
-use Rattle.std.specs.Ordering.{int_cmp, is_eq, is_lt, ordering_then}
-use Rattle.pv_number.specs.NumberEquality.{int_number, number_cmp}
-use Rattle.pv_number.proofs.NumberLaws.{ints_cmp}
+use Rattle.std.specs.Ordering.{int_cmp, is_eq, is_lt}
 use Rattle.pv_tree.specs.declared.Value.{Value}
 use Rattle.pv_tree.specs.declared.Value.TheOpen.{Value-F}
 use Rattle.pv_tree.specs.declared.Value.TheViews.{roll-Value, out-Value, roll-out-Value}
