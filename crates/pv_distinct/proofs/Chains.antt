@@ -1,13 +1,11 @@
 -- Values that ascend, and so are distinct.
-use Rattle.std.proofs.Common.{◌≡◌, ◌||◌, ◌⊎◌, inl, inr, ◌-◌, ◌≤◌, ℕ, zero, suc, ◌+◌, ◌<◌, ℤ, true, false, List, [], ◌∷◌, length, get_or, refl, sym, ap, ◌∙◌, arith}
-use Rattle.std.specs.Prelude.{map, pos}
+use Rattle.std.proofs.Common.{◌≡◌, ◌||◌, ◌⊎◌, inl, inr, ◌-◌, ◌≤◌, ℕ, zero, suc, ◌+◌, ◌<◌, true, false, List, [], ◌∷◌, length, get_or, refl, sym, ap, ◌∙◌, arith}
+use Rattle.std.specs.Prelude.{map}
 use Rattle.std.proofs.lemmas.List.{get_or-map, length-map}
 use Rattle.std.specs.List.{AllByRecursion, list_any}
 use Rattle.std.specs.declared.cmp.Ordering.{Ordering}
 use Rattle.std.specs.declared.cmp.Ordering.TheVariants.{Less, Equal, Greater}
-use Rattle.std.specs.Ordering.{int_cmp, is_eq, is_lt, ordering_then}
-use Rattle.pv_number.specs.NumberEquality.{int_number, number_cmp}
-use Rattle.pv_number.proofs.NumberLaws.{ints_cmp}
+use Rattle.std.specs.Ordering.{int_cmp, is_eq, is_lt}
 use Rattle.pv_tree.specs.declared.Value.{Value}
 use Rattle.pv_tree.specs.declared.Value.TheOpen.{Value-F}
 use Rattle.pv_tree.specs.declared.Value.TheViews.{roll-Value, out-Value, roll-out-Value}
@@ -18,22 +16,9 @@ use Rattle.pv_distinct.specs.declared.token.Token.TheVariants as token
 use Rattle.pv_distinct.specs.Tokens.{bytes_cmp, token_cmp}
 use Rattle.pv_distinct.specs.Keys.{key, key_cmp}
 use Rattle.pv_distinct.specs.TokenOrder.{keys_total}
+use Rattle.pv_distinct.proofs.Alone.{then_equal, int_tokens, text_tokens}
 use Rattle.pv_distinct.proofs.Levels.{key_level}
 use Rattle.pv_distinct.proofs.Telling.{keys_tell}
-
--- of ordered parts the first alone decides, where the others are equal
-then_equal : (o : Ordering) → ordering_then o Equal ≡ o
-then_equal Less = refl
-then_equal Equal = refl
-then_equal Greater = refl
-
-pub int_tokens : (m n : ℤ) → token_cmp (token.Int m) (token.Int n) ≡ int_cmp m n
-unfolding token_cmp
-int_tokens m n = then_equal (number_cmp (int_number m) (int_number n)) ∙ ints_cmp m n
-
-pub text_tokens : (t u : List ℕ) → token_cmp (token.Str t) (token.Str u) ≡ bytes_cmp t u
-unfolding token_cmp
-text_tokens t u = ap (λ o. ordering_then o (ordering_then (bytes_cmp t u) Equal)) (ints_cmp (pos 0) (pos 0)) ∙ then_equal (bytes_cmp t u)
 
 -- the key of the first value is below that of the second
 abbrev pub Below : Value → Value → Type 0

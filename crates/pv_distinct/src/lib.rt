@@ -9,6 +9,7 @@ mod laws;
 mod making;
 mod naming;
 mod seen;
+mod split_key;
 mod token;
 
 pub use entries::{merged, merged_named};
