@@ -69,6 +69,29 @@ pub(crate) fn value(rt: &impl Abort, alloc: Global, notation: &str) -> Value {
     value_of(rt, alloc, &tree(rt, alloc, notation))
 }
 
+/// The values of a list's notation.
+pub(crate) fn values_of(rt: &impl Abort, alloc: Global, notation: &str) -> Vec<Value> {
+    let list = tree(rt, alloc, notation);
+    let mut all = Vec::new(alloc);
+    for part in list.as_array().expect(rt, "a list") {
+        all.push(value_of(rt, alloc, part)).expect(rt, "memory");
+    }
+    all
+}
+
+/// The entries of the notation of a list of pairs.
+pub(crate) fn entries_of(rt: &impl Abort, alloc: Global, notation: &str) -> Vec<(Value, Value)> {
+    let list = tree(rt, alloc, notation);
+    let mut all = Vec::new(alloc);
+    for pair in list.as_array().expect(rt, "a list") {
+        if let Some([key, value]) = pair.as_array() {
+            all.push((value_of(rt, alloc, key), value_of(rt, alloc, value)))
+                .expect(rt, "memory");
+        }
+    }
+    all
+}
+
 #[cycle(value)]
 fn value_of(rt: &impl Abort, alloc: Global, tree: &Tree) -> Value {
     match tree {

@@ -7,3 +7,6 @@ pub mod Appending
 pub mod Sightings
 pub mod Placing
 pub mod Putting
+pub mod Alone
+pub mod Chains
+pub mod Named

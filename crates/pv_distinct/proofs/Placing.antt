@@ -1,10 +1,12 @@
 -- What a place says of the entries and items that are kept.
-use Rattle.std.proofs.Common.{◌≡◌, ℕ, suc, ◌+◌, ◌<◌, Bool, true, false, cond, List, [], ◌∷◌, ◌++◌, length, map, get_or, refl, ap, ◌∙◌, arith}
+use Rattle.std.proofs.Common.{◌≡◌, ℕ, suc, ◌+◌, ◌<◌, ◌≤◌, zero, Bool, true, false, cond, List, [], ◌∷◌, ◌++◌, length, map, get_or, take, refl, sym, ap, ◌∙◌, arith}
 use Rattle.std.specs.Prelude.{Option, None, Some, slice_set}
-use Rattle.std.specs.List.{position_from}
+use Rattle.std.specs.List.{list_any, position_from}
+use Rattle.std.proofs.lemmas.List.{take_all}
 use Rattle.pv_tree.specs.declared.Value.{Value}
 use Rattle.pv_equality.specs.Equality.{same}
 use Rattle.pv_equality.specs.Steps.{put_item, put_entry}
+use Rattle.pv_equality.proofs.Anys.{neither_left, neither_right}
 use Rattle.pv_distinct.specs.Sightings.{place_at, place_of}
 use Rattle.pv_distinct.specs.declared.seen.Place.TheVariants as place
 use Rattle.pv_distinct.proofs.Sightings.{some_any, none_any}
@@ -66,3 +68,29 @@ module _ (k v : Value) where
   entry_within es i h =
       let r = olds 0 i es (old_told (position_from (λ w. same w k) 0 (keys es)) i h) in
       omega (arith, r.1, r.2)
+
+-- a place that is looked for one by one
+module _ (k : Value) where
+  abbrev pub has_key : Value × Value → Bool
+  has_key e = same e.0 k
+
+  missing : (n : ℕ) (es : List (Value × Value)) → list_any has_key es ≡ false → position_from (λ w. same w k) n (keys es) ≡ None
+  missing n [] h = refl
+  missing n (e ∷ es) h =
+      (λ i. cond (neither_left (same e.0 k) (list_any has_key es) h i) (Some n) (position_from (λ w. same w k) (n + 1) (keys es)))
+      ∙ missing (n + 1) es (neither_right (same e.0 k) (list_any has_key es) h)
+
+  reached : (n i : ℕ) (es : List (Value × Value)) (d : Value × Value) → i < length es → list_any has_key (take i es) ≡ false → has_key (get_or es i d) ≡ true
+      → position_from (λ w. same w k) n (keys es) ≡ Some (n + i)
+  reached n i [] d l h g = absurd (omega (arith, l))
+  reached n zero (e ∷ es) d l h g = (λ j. cond (g j) (Some n) (position_from (λ w. same w k) (n + 1) (keys es))) ∙ ap Some (omega arith)
+  reached n (suc i) (e ∷ es) d l h g =
+      (λ j. cond (neither_left (same e.0 k) (list_any has_key (take i es)) h j) (Some n) (position_from (λ w. same w k) (n + 1) (keys es)))
+      ∙ reached (n + 1) i es d (omega (arith, l)) (neither_right (same e.0 k) (list_any has_key (take i es)) h) g ∙ ap Some (omega arith)
+
+  pub place_reached : (es : List (Value × Value)) (i : ℕ) (d : Value × Value) → i < length es → list_any has_key (take i es) ≡ false → has_key (get_or es i d) ≡ true
+      → place.Old i ≡ place_of (keys es) k
+  place_reached es i d l h g = let e : i ≡ 0 + i = omega arith in ap place.Old e ∙ sym (ap place_at (reached 0 i es d l h g))
+
+  pub place_missing : (es : List (Value × Value)) (i : ℕ) → length es ≤ i → list_any has_key (take i es) ≡ false → place.New ≡ place_of (keys es) k
+  place_missing es i l h = sym (ap place_at (missing 0 es (sym (ap (list_any has_key) (take_all i es (omega (arith, l)))) ∙ h)))

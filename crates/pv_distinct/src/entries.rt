@@ -8,11 +8,13 @@ ghost use Rattle.pv_equality.specs.Merging.{merged_entries};
 ghost use Rattle.pv_equality.specs.Steps as step;
 ghost use Rattle.pv_distinct.specs.Sightings.{place_of};
 
+use crate::ascending::have_ascending_keys;
 use crate::items::FEW;
+use crate::naming::are_named;
 use crate::seen::{Place, Seen};
 use pv_equality::same;
 use pv_text::Memory;
-use pv_tree::Value;
+use pv_tree::{Members, Value};
 use std::alloc::Global;
 use std::marker::Model;
 
@@ -93,7 +95,10 @@ impl SeenEntries {
 }
 
 #[tactic(auto, using(pv_equality::proofs::Merging::merged_none, pv_equality::proofs::Merging::merged_more))]
-fn merged_of_many(alloc: Global, entries: Vec<(Value, Value)>) -> Result<Vec<(Value, Value)>, Memory>
+fn merged_of_many(
+    alloc: Global,
+    entries: Vec<(Value, Value)>,
+) -> Result<Vec<(Value, Value)>, Memory>
     ensures { IfOk result (λ kept. kept.items ≡ merged_entries entries.items) }
 {
     let mut kept = SeenEntries::new(alloc);
@@ -104,10 +109,73 @@ fn merged_of_many(alloc: Global, entries: Vec<(Value, Value)>) -> Result<Vec<(Va
     Ok(entries)
 }
 
+/// Where a key stands among those of entries.
+#[tactic(auto, using(crate::proofs::Placing::place_reached, crate::proofs::Placing::place_missing, std::proofs::lemmas::List::Folds::list_any_more))]
+fn place_among(entries: &[(Value, Value)], key: &Value) -> Place
+    ensures { result ≡ place_of (map (λ e. e.0) entries.now) key.now }
+{
+    for (i, entry) in entries.iter().enumerate() {
+        if same(&entry.0, key) {
+            return Place::Old(i);
+        }
+    }
+    Place::New
+}
+
+#[tactic(auto, using(crate::proofs::Placing::entry_new, crate::proofs::Placing::entry_old, crate::proofs::Placing::entry_within))]
+fn put_among(kept: &mut Vec<(Value, Value)>, entry: (Value, Value)) -> Result<(), Memory>
+    ensures { OnOk result (kept.new.items ≡ step.put_entry kept.old.items entry.0 entry.1) }
+{
+    match place_among(kept.as_slice(), &entry.0) {
+        Place::New => kept.push(entry)?,
+        Place::Old(place) => {
+            let (key, value) = entry;
+            drop(key);
+            set_value(kept, place, value);
+        }
+    }
+    Ok(())
+}
+
+#[tactic(auto, using(pv_equality::proofs::Merging::merged_none, pv_equality::proofs::Merging::merged_more))]
+fn merged_of_few(alloc: Global, entries: Vec<(Value, Value)>) -> Result<Vec<(Value, Value)>, Memory>
+    ensures { IfOk result (λ kept. kept.items ≡ merged_entries entries.items) }
+{
+    let mut kept = Vec::new(alloc);
+    for entry in entries {
+        put_among(&mut kept, entry)?;
+    }
+    Ok(kept)
+}
+
 /// Of entries whose keys are the same the first, with the value of the last, in their order. It takes time
 /// in proportion to the keys' size and to the logarithm of their number.
+#[tactic(auto, using(pv_equality::proofs::Merging::entries_stay))]
 pub fn merged(alloc: Global, entries: Vec<(Value, Value)>) -> Result<Vec<(Value, Value)>, Memory>
     ensures { IfOk result (λ kept. kept.items ≡ merged_entries entries.items) }
 {
+    if have_ascending_keys(entries.as_slice()) {
+        return Ok(entries);
+    }
+    if entries.len() <= FEW {
+        return merged_of_few(alloc, entries);
+    }
     merged_of_many(alloc, entries)
+}
+
+/// The same of entries whose keys are most likely the names of an object's members, in their order and as
+/// texts: where they are, it takes one pass.
+#[tactic(auto, using(pv_equality::proofs::Merging::entries_stay))]
+pub fn merged_named(
+    alloc: Global,
+    members: &Members,
+    entries: Vec<(Value, Value)>,
+) -> Result<Vec<(Value, Value)>, Memory>
+    ensures { IfOk result (λ kept. kept.items ≡ merged_entries entries.items) }
+{
+    if are_named(members.as_slice(), entries.as_slice()) {
+        return Ok(entries);
+    }
+    let kept = merged(alloc, entries)?;
+    Ok(kept)
 }

@@ -6,6 +6,7 @@ ghost use Rattle.pv_equality.specs.Equality as equality;
 ghost use Rattle.pv_equality.specs.Merging.{first_of_each};
 ghost use Rattle.pv_equality.specs.Steps as step;
 
+use crate::ascending::are_ascending;
 use crate::seen::{Place, Seen};
 use pv_equality::same;
 use pv_text::Memory;
@@ -115,9 +116,13 @@ fn distinct_of_few(alloc: Global, values: Vec<Value>) -> Result<Vec<Value>, Memo
 
 /// Of values the first of each that are the same, in their order. It takes time in proportion to their size
 /// and to the logarithm of their number.
+#[tactic(auto, using(pv_equality::proofs::Keeping::distinct_stay))]
 pub fn distinct(alloc: Global, values: Vec<Value>) -> Result<Vec<Value>, Memory>
     ensures { IfOk result (λ kept. kept.items ≡ first_of_each values.items) }
 {
+    if are_ascending(values.as_slice()) {
+        return Ok(values);
+    }
     if values.len() <= FEW {
         return distinct_of_few(alloc, values);
     }

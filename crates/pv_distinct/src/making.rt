@@ -6,6 +6,7 @@ ghost use Rattle.pv_distinct.specs.Keys as spec;
 ghost use Rattle.pv_distinct.specs.Keys.{key};
 
 use crate::key::Key;
+use crate::split_key::SplitKey;
 use crate::token::Token;
 use pv_text::{Bytes, Memory, Text};
 use pv_tree::Value;
@@ -177,11 +178,15 @@ fn write_key(alloc: Global, value: &Value, out: &mut Key) -> Result<(), Memory>
     out.push(Token::End)
 }
 
-/// Nearly all values are one token.
-pub fn make_key(alloc: Global, value: &Value) -> Result<Key, Memory>
+/// The key of a value, its first token apart.
+pub fn make_key(alloc: Global, value: &Value) -> Result<SplitKey, Memory>
     ensures { IfOk result (λ k. k ≡ key value.now) }
 {
-    let mut out = Key::new(alloc, 1)?;
-    write_key(alloc, value, &mut out)?;
-    Ok(out)
+    let first = start(alloc, value)?;
+    let mut rest = Key::new(alloc, 0)?;
+    if first.opens() {
+        write_parts(alloc, value, &mut rest)?;
+        rest.push(Token::End)?;
+    }
+    Ok(SplitKey::new(first, rest))
 }

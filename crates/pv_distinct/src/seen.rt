@@ -1,5 +1,5 @@
-use crate::key::Key;
 use crate::making::make_key;
+use crate::split_key::SplitKey;
 use pv_text::Memory;
 use pv_tree::Value;
 use std::alloc::Global;
@@ -16,7 +16,7 @@ pub enum Place {
 /// The values that came, no two of them the same, each with its place in the order in which they came.
 #[derive(Drop)]
 pub struct Seen {
-    places: BTreeMap<Key, usize>,
+    places: BTreeMap<SplitKey, usize>,
 }
 
 impl Seen {

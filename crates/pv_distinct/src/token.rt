@@ -177,6 +177,17 @@ fn compare_contents(a: &Token, b: &Token) -> Ordering
     }
 }
 
+#[tactic(auto, unfolding(crate::specs::Tokens::token_cmp))]
+fn compare_tokens(a: &Token, b: &Token) -> Ordering
+    ensures { result ≡ spec.token_cmp a.now b.now }
+{
+    match a.kind().cmp(&b.kind()) {
+        Ordering::Less => Ordering::Less,
+        Ordering::Equal => compare_contents(a, b),
+        Ordering::Greater => Ordering::Greater,
+    }
+}
+
 impl PartialEq for Token {
     ghost use Rattle.std.specs.Ordering.{eq_by_cmp};
     ghost use Rattle.pv_distinct.specs.Tokens.{token_cmp};
@@ -213,12 +224,12 @@ impl Ord for Token {
 
     ghost matches_eq = { λ x y. refl };
 
-    #[tactic(auto, unfolding(crate::specs::Tokens::token_cmp))]
+    #[tactic(auto, using(crate::proofs::Alone::int_tokens, crate::proofs::Alone::text_tokens))]
     fn cmp(&self, other: &Token) -> Ordering {
-        match self.kind().cmp(&other.kind()) {
-            Ordering::Less => Ordering::Less,
-            Ordering::Equal => compare_contents(self, other),
-            Ordering::Greater => Ordering::Greater,
+        match (self, other) {
+            (Token::Int(m), Token::Int(n)) => m.cmp(n),
+            (Token::Str(text), Token::Str(other_text)) => text.cmp(other_text),
+            _ => compare_tokens(self, other),
         }
     }
 }

@@ -44,6 +44,10 @@ kept_any : (before vs : List Value) (w : Value) → (any_same before w || any_sa
 kept_any before [] w = refl
 kept_any before (v ∷ vs) w = kept_at (any_same before v) before vs v w refl (kept_any (before ++ v ∷ []) vs w)
 
+pub as_among_all : (vs : List Value) (w : Value) → any_same (first_of_each vs) w ≡ any_same vs w
+unfolding first_of_each
+as_among_all vs w = kept_any [] vs w
+
 -- one more value behind
 behind_more : (before vs : List Value) (v : Value) → first_behind before (vs ++ v ∷ []) ≡ first_behind before vs ++ cond (any_same (before ++ vs) v) [] (v ∷ [])
 behind_more before [] v = append-nil (cond (any_same before v) [] (v ∷ [])) ∙ (λ i. cond (any_same (sym (append-nil before) i) v) [] (v ∷ []))

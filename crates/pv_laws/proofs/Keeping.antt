@@ -1,106 +1,42 @@
 -- What sets and dicts keep, value by value.
-use Rattle.std.proofs.Common.{◌≡◌, ℕ, zero, suc, ◌<◌, Bool, true, false, ◌||◌, List, [], ◌∷◌, ◌++◌, map, length, if◌then◌else◌, slice_index_or, refl, ap, subst, ◌∙◌, arith}
+use Rattle.std.proofs.Common.{◌≡◌, ℕ, zero, suc, ◌<◌, Bool, true, false, ◌||◌, cond, List, [], ◌∷◌, ◌++◌, map, length, slice_index_or, refl, sym, subst, ◌∙◌, arith}
 use Rattle.std.specs.List.{AllByRecursion, Contains, list_any}
 use Rattle.pv_tree.specs.declared.Value.{Value}
+use Rattle.pv_tree.specs.declared.Value.TheVariants as value
 use Rattle.pv_equality.specs.Equality.{same}
-use Rattle.pv_equality.specs.Merging.{put_item, put_items, first_of_each, put_entry, put_entries, merged_entries}
-use Rattle.pv_equality.proofs.Levels.{same_refl}
-use Rattle.pv_equality.proofs.Merging.{keys_more}
-use Rattle.pv_laws.specs.Kept.{AreDistinct, HasSame, AreKept}
+use Rattle.pv_equality.specs.Merging.{first_behind, first_of_each, last_value, merged_entries}
+use Rattle.pv_equality.proofs.Anys.{or_left, or_right, neither_left, neither_right, not_true}
+use Rattle.pv_equality.proofs.Inclusion.{each_so}
+use Rattle.pv_equality.proofs.Keeping.{any_same, as_among_all, first_distinct}
+use Rattle.pv_equality.proofs.Levels.{same_refl, same_symm, same_trans}
+use Rattle.pv_laws.specs.Kept.{HasSame, AreKept, HasNoKey}
 
-abbrev put_by : Bool → List Value → Value → List Value
-put_by there kept v = if there then kept else kept ++ v ∷ []
-
-or_left : (a b : Bool) → a ≡ true → (a || b) ≡ true
-or_left true b e = refl
-or_left false b e = cc
-
-or_right : (a b : Bool) → b ≡ true → (a || b) ≡ true
-or_right true b e = refl
-or_right false b e = e
-
-or_more : (a b c : Bool) → (b ≡ true → c ≡ true) → (a || b) ≡ true → (a || c) ≡ true
-or_more true b c h e = refl
-or_more false b c h e = h e
-
-neither_left : (a b : Bool) → (a || b) ≡ false → a ≡ false
-neither_left true b e = cc
-neither_left false b e = refl
-
-neither_right : (a b : Bool) → (a || b) ≡ false → b ≡ false
-neither_right true b e = cc
-neither_right false b e = e
-
-none_of_both : (a b : Bool) → a ≡ false → b ≡ false → (a || b) ≡ false
-none_of_both true b e f = cc
-none_of_both false b e f = f
-
-module _ (test : Value → Bool) where
-  any_front : (xs ys : List Value) → list_any test xs ≡ true → list_any test (xs ++ ys) ≡ true
-  any_front [] ys e = cc
-  any_front (x ∷ xs) ys e = or_more (test x) (list_any test xs) (list_any test (xs ++ ys)) (any_front xs ys) e
-
-  any_last : (xs : List Value) (v : Value) → test v ≡ true → list_any test (xs ++ v ∷ []) ≡ true
-  any_last [] v e = or_left (test v) false e
-  any_last (x ∷ xs) v e = or_right (test x) (list_any test (xs ++ v ∷ [])) (any_last xs v e)
-
-  none_more : (xs : List Value) (v : Value) → list_any test xs ≡ false → test v ≡ false → list_any test (xs ++ v ∷ []) ≡ false
-  none_more [] v e f = none_of_both (test v) false f refl
-  none_more (x ∷ xs) v e f =
-      none_of_both (test x) (list_any test (xs ++ v ∷ [])) (neither_left (test x) (list_any test xs) e) (none_more xs v (neither_right (test x) (list_any test xs) e) f)
-
--- one more at the end of distinct values, which none of them is the same as
-distinct_more : (kept : List Value) (v : Value) → AreDistinct kept → list_any (λ k. same k v) kept ≡ false → AreDistinct (kept ++ v ∷ [])
-distinct_more [] v d e = (refl, tt)
-distinct_more (k ∷ ks) v d e =
-    (none_more (same k) ks v d.0 (neither_left (same k v) (list_any (λ x. same x v) ks) e), distinct_more ks v d.1 (neither_right (same k v) (list_any (λ x. same x v) ks) e))
-
-distinct_put : (b : Bool) (kept : List Value) (v : Value) → list_any (λ k. same k v) kept ≡ b → AreDistinct kept → AreDistinct (put_by b kept v)
-distinct_put true kept v e d = d
-distinct_put false kept v e d = distinct_more kept v d e
-
-distinct_all : (kept vs : List Value) → AreDistinct kept → AreDistinct (put_items kept vs)
-distinct_all kept [] d = d
-distinct_all kept (v ∷ vs) d = distinct_all (put_item kept v) vs (distinct_put (list_any (λ k. same k v) kept) kept v refl d)
-
--- what is there stays there
-still : (test : Value → Bool) (b : Bool) (kept : List Value) (v : Value) → list_any test kept ≡ true → list_any test (put_by b kept v) ≡ true
-still test true kept v e = e
-still test false kept v e = any_front test kept (v ∷ []) e
-
-still_all : (test : Value → Bool) (kept vs : List Value) → list_any test kept ≡ true → list_any test (put_items kept vs) ≡ true
-still_all test kept [] e = e
-still_all test kept (v ∷ vs) e = still_all test (put_item kept v) vs (still test (list_any (λ k. same k v) kept) kept v e)
-
-has_put : (b : Bool) (kept : List Value) (v : Value) → list_any (λ k. same k v) kept ≡ b → HasSame (put_by b kept v) v
-has_put true kept v e = e
-has_put false kept v e = any_last (λ k. same k v) kept v (same_refl v)
-
-has_all : (kept vs : List Value) → AllByRecursion (HasSame (put_items kept vs)) vs
-has_all kept [] = tt
-has_all kept (v ∷ vs) = (still_all (λ k. same k v) (put_item kept v) vs (has_put (list_any (λ k. same k v) kept) kept v refl), has_all (put_item kept v) vs)
+-- each value is the same as one of all, and so as one of the kept
+each_has : (vs : List Value) → AllByRecursion (HasSame vs) vs
+each_has [] = tt
+each_has (v ∷ vs) =
+    (or_left (same v v) (any_same vs v) (same_refl v), each_so (HasSame vs) (λ w h. or_right (same v w) (any_same vs w) h) vs (each_has vs))
 
 pub keeps : (vs : List Value) → AreKept vs (first_of_each vs)
-unfolding first_of_each
-keeps vs = record { distinct = distinct_all [] vs tt; whole = has_all [] vs }
+keeps vs = record {
+  distinct = first_distinct vs;
+  whole = each_so (HasSame vs) (λ w h. as_among_all vs w ∙ h) vs (each_has vs);
+}
 
-module _ (P : Value → Type 0) where
-  each_more : (kept : List Value) (v : Value) → AllByRecursion P kept → P v → AllByRecursion P (kept ++ v ∷ [])
-  each_more [] v ps p = (p, tt)
-  each_more (k ∷ ks) v ps p = (ps.0, each_more ks v ps.1 p)
-
-  each_put : (b : Bool) (kept : List Value) (v : Value) → AllByRecursion P kept → P v → AllByRecursion P (put_by b kept v)
-  each_put true kept v ps p = ps
-  each_put false kept v ps p = each_more kept v ps p
-
-  each_all : (kept vs : List Value) → AllByRecursion P kept → AllByRecursion P vs → AllByRecursion P (put_items kept vs)
-  each_all kept [] ps qs = ps
-  each_all kept (v ∷ vs) ps qs = each_all (put_item kept v) vs (each_put (list_any (λ k. same k v) kept) kept v ps qs.0) qs.1
-
-  at_place : (xs : List Value) (k : ℕ) (x : Value) → AllByRecursion P xs → k < length xs → P (slice_index_or xs k x)
+module _ {X : Type 0} (P : X → Type 0) where
+  at_place : (xs : List X) (k : ℕ) (x : X) → AllByRecursion P xs → k < length xs → P (slice_index_or xs k x)
   at_place [] k x ps l = absurd (omega arith)
   at_place (y ∷ ys) zero x ps l = ps.0
   at_place (y ∷ ys) (suc k) x ps l = at_place ys k x ps.1 (omega arith)
+
+module _ (P : Value → Type 0) where
+  kept_one : (b : Bool) (v : Value) (ks : List Value) → P v → AllByRecursion P ks → AllByRecursion P (cond b [] (v ∷ []) ++ ks)
+  kept_one true v ks p ps = ps
+  kept_one false v ks p ps = (p, ps)
+
+  kept_all : (before vs : List Value) → AllByRecursion P vs → AllByRecursion P (first_behind before vs)
+  kept_all before [] ps = tt
+  kept_all before (v ∷ vs) ps = kept_one (any_same before v) v (first_behind (before ++ v ∷ []) vs) ps.0 (kept_all (before ++ v ∷ []) vs ps.1)
 
 each_behind : (y : Value) (ys xs : List Value) → AllByRecursion (Contains ys) xs → AllByRecursion (Contains (y ∷ ys)) xs
 each_behind y ys [] ps = tt
@@ -112,12 +48,31 @@ each_contained (v ∷ vs) = ((zero, omega arith, refl), each_behind v vs vs (eac
 
 pub keeps_nothing_else : (vs : List Value) (v : Value) → Contains (first_of_each vs) v → Contains vs v
 unfolding first_of_each
-keeps_nothing_else vs v c = subst (Contains vs) c.2 (at_place (Contains vs) (first_of_each vs) c.0 v (each_all (Contains vs) [] vs tt (each_contained vs)) c.1)
+keeps_nothing_else vs v c = subst (Contains vs) c.2 (at_place (Contains vs) (first_of_each vs) c.0 v (kept_all (Contains vs) [] vs (each_contained vs)) c.1)
 
-keys_all : (done es : List (Value × Value)) → map (λ e. e.0) (put_entries done es) ≡ put_items (map (λ e. e.0) done) (map (λ e. e.0) es)
-keys_all done [] = refl
-keys_all done (e ∷ es) = keys_all (put_entry done e.0 e.1) es ∙ ap (λ kept. put_items kept (map (λ x. x.0) es)) (keys_more done e.0 e.1)
+-- the value of the last entry with an equal key
+last_stays : (k v l : Value) (es : List (Value × Value)) → same k l ≡ true → HasNoKey es l → last_value k v es ≡ v
+last_stays k v l [] h n = refl
+last_stays k v l (e ∷ es) h n =
+    (λ i. last_value k (cond (not_true (same k e.0) (same e.0 l) (λ g. same_trans e.0 k l (same_symm k e.0 g) h) (neither_left (same e.0 l) (list_any (λ x. same x.0 l) es) n) i) e.1 v) es)
+    ∙ last_stays k v l es h (neither_right (same e.0 l) (list_any (λ x. same x.0 l) es) n)
 
-pub keys_keep : (es : List (Value × Value)) → map (λ e. e.0) (merged_entries es) ≡ first_of_each (map (λ e. e.0) es)
-unfolding first_of_each merged_entries
-keys_keep es = keys_all [] es
+last_told : (k v : Value) (before : List (Value × Value)) (e : Value × Value) (after : List (Value × Value)) → same k e.0 ≡ true → HasNoKey after e.0
+    → last_value k v (before ++ e ∷ after) ≡ e.1
+last_told k v [] e after h n = (λ i. last_value k (cond (h i) e.1 v) after) ∙ last_stays k e.1 e.0 after h n
+last_told k v (x ∷ before) e after h n = last_told k (cond (same k x.0) x.1 v) before e after h n
+
+abbrev Takes : Value × Value → Value × Value → Type 0
+Takes e d = same d.0 e.0 ≡ true → d.1 ≡ e.1
+
+all_take : (ks : List Value) (before : List (Value × Value)) (e : Value × Value) (after : List (Value × Value)) → HasNoKey after e.0
+    → AllByRecursion (Takes e) (map (λ k. (k, last_value k value.None (before ++ e ∷ after))) ks)
+all_take [] before e after n = tt
+all_take (k ∷ ks) before e after n = (λ h. last_told k value.None before e after h n, all_take ks before e after n)
+
+pub last_values : (before : List (Value × Value)) (e : Value × Value) (after : List (Value × Value)) (d : Value × Value) → HasNoKey after e.0
+    → Contains (merged_entries (before ++ e ∷ after)) d → same d.0 e.0 ≡ true → d.1 ≡ e.1
+unfolding merged_entries
+last_values before e after d n c =
+    subst (Takes e) c.2
+    (at_place (Takes e) (merged_entries (before ++ e ∷ after)) c.0 d (all_take (first_of_each (map (λ x. x.0) (before ++ e ∷ after))) before e after n) c.1)
