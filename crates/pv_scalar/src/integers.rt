@@ -119,14 +119,20 @@ fn not_above(n: i128, gt: Option<i128>) -> Option<Kind>
 fn upper_fault(rule: &IntRule, n: i128) -> Option<Kind>
     ensures { result ≡ spec.upper_fault rule.now n }
 {
-    above(n, rule.le).or(not_below(n, rule.lt))
+    match above(n, rule.le) {
+        Some(fault) => Some(fault),
+        None => not_below(n, rule.lt),
+    }
 }
 
 #[tactic(auto, unfolding(crate::specs::Integers::lower_fault))]
 fn lower_fault(rule: &IntRule, n: i128) -> Option<Kind>
     ensures { result ≡ spec.lower_fault rule.now n }
 {
-    below(n, rule.ge).or(not_above(n, rule.gt))
+    match below(n, rule.ge) {
+        Some(fault) => Some(fault),
+        None => not_above(n, rule.gt),
+    }
 }
 
 /// The first test that the int does not pass.
@@ -134,7 +140,11 @@ fn lower_fault(rule: &IntRule, n: i128) -> Option<Kind>
 pub(crate) fn int_fault(rule: &IntRule, n: i128) -> Option<Kind>
     ensures { result ≡ spec.int_fault rule.now n }
 {
-    no_multiple(n, rule.multiple_of)
-        .or(upper_fault(rule, n))
-        .or(lower_fault(rule, n))
+    if let Some(fault) = no_multiple(n, rule.multiple_of) {
+        return Some(fault);
+    }
+    match upper_fault(rule, n) {
+        Some(fault) => Some(fault),
+        None => lower_fault(rule, n),
+    }
 }
