@@ -115,6 +115,7 @@ impl<
         }
     }
 
+    #[inline(never)]
     fn members(
         &self,
         out: &mut Out<'a>,

@@ -71,7 +71,8 @@ impl<'a> Out<'a> {
         }
     }
 
-    /// Adds one error.
+    /// Adds one error. It stays out of the frames of the recursion.
+    #[inline(never)]
     pub(crate) fn fail(
         &mut self,
         alloc: Global,

@@ -126,7 +126,8 @@ impl<
         self.first(out, children, tree)
     }
 
-    /// A value without parts.
+    /// A value without parts. Its outcome stays out of the frames of the recursion.
+    #[inline(never)]
     fn scalar_node(
         &self,
         out: &mut Out<'a>,

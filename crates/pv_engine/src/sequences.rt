@@ -62,6 +62,8 @@ impl<
         Ok(found)
     }
 
+    /// All items. What is kept stays out of the frames of the other kinds of nodes, here and for the other collections.
+    #[inline(never)]
     fn items(
         &self,
         out: &mut Out<'a>,

@@ -35,6 +35,7 @@ impl<
     'a,
     F: Fn(&Scene<'a>, &mut Out<'a>, u64, u32, &Tree) -> Result<Option<Good>, Memory>,
 > Rules<'s, 'a, F> {
+    #[inline(never)]
     fn positions(
         &self,
         out: &mut Out<'a>,

@@ -1,2 +1,3 @@
 mod Firsts
 mod IntLaws
+pub mod WrittenInts

@@ -7,7 +7,7 @@ ghost use Rattle.pv_scalar.specs.Integers as spec;
 
 use crate::answers::Graded;
 use pv_fault::{Grade, Kind};
-use pv_number::{Lexeme, Whole, is_integer};
+use pv_number::{Lexeme, Whole, integer, is_integer};
 use pv_numeric::{is_multiple, numeric_string, whole_number};
 use pv_rules::IntRule;
 use pv_tree::Tree;
@@ -22,9 +22,13 @@ fn whole_int(grade: Grade, whole: Whole) -> Graded<i128>
     }
 }
 
+#[tactic(auto, using(crate::proofs::WrittenInts::written_int))]
 fn number_int(strict: bool, lexeme: &Lexeme) -> Graded<i128>
     ensures { result ≡ spec.number_int strict lexeme.now }
 {
+    if let Some(n) = integer(lexeme) {
+        return Ok((n, Grade::Exact));
+    }
     if is_integer(lexeme) {
         whole_int(Grade::Exact, whole_number(lexeme))
     } else if strict {
