@@ -1,15 +1,14 @@
 -- A table that stands for a schema means what the schema means.
-use Rattle.std.proofs.Common.{◌≡◌, ℕ, zero, suc, Bool, List, [], ◌∷◌, map, length, drop, Option, Some, None, slice_get, refl, ap, sym, ◌∙◌, arith, get_or}
+use Rattle.std.proofs.Common.{◌≡◌, ℕ, zero, suc, Bool, List, [], ◌∷◌, map, length, drop, Option, Some, None, slice_get, refl, ap, ◌∙◌, arith, get_or}
 use Rattle.std.proofs.Math.Path.{fun_ext}
 use Rattle.pv_tree.specs.declared.Tree.{Tree}
 use Rattle.pv_fault.specs.declared.Outcome.{Outcome}
 use Rattle.pv_node.specs.declared.Node.{Node}
 use Rattle.pv_node.specs.declared.Body.{Body}
 use Rattle.pv_node.specs.declared.Body.TheOpen.{Body-F}
-use Rattle.pv_node.specs.Places.{Slot, Place, body_of, slots, slots_of}
-use Rattle.pv_plan.specs.Records.{Stands, all_places, child_at, op_at, op_of, own_strict, children_of}
+use Rattle.pv_node.specs.Places.{Place, body_of, slots, slots_of}
+use Rattle.pv_plan.specs.Records.{Stands, all_places, child_at, op_of, own_strict, children_of}
 use Rattle.pv_plan.specs.declared.Record.{Record}
-use Rattle.pv_engine.specs.Rules.{collection}
 use Rattle.pv_engine.specs.Meaning.{meaning_at, node, node_at, strict_in}
 use Rattle.pv_engine.specs.Run.{run_table, operation, at_record}
 

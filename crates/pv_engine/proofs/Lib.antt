@@ -1,4 +1,5 @@
 pub mod Agrees
 pub mod Walking
 pub mod Parts
+pub mod Takers
 pub mod Turns

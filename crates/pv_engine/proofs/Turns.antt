@@ -1,12 +1,12 @@
 -- Turns of the loops over the parts of a collection.
 use Rattle.std.proofs.Common.{◌≡◌, ℕ, Bool, true, false, eqb, zero, suc, ◌+◌, ◌<◌, ◌≤◌, List, [], ◌∷◌, ◌++◌, map, length, take, drop, get_or, Option, Some, None, slice_get, refl, sym, ap, subst, ◌∙◌, add-one, arith}
 use Rattle.std.proofs.lemmas.Bool.{false≢true, eqb-true}
+use Rattle.std.proofs.lemmas.Option.{none-some}
 use Rattle.std.proofs.lemmas.List.{nil_from_length, drop_more, take_more, take_all, map-append, length-map, length-take-le}
 use Rattle.pv_tree.specs.declared.Step.TheVariants.{Index}
 use Rattle.pv_tree.specs.declared.Tree.{Tree}
 use Rattle.pv_tree.specs.declared.Value.{Value}
 use Rattle.pv_rules.specs.declared.Collection.{Collection}
-use Rattle.pv_rules.specs.declared.GatherRule.{GatherRule}
 use Rattle.pv_fault.specs.declared.Good as good
 use Rattle.pv_fault.specs.declared.Kind.TheVariants as kind
 use Rattle.pv_fault.specs.declared.LineError.{LineError}
@@ -15,8 +15,8 @@ use Rattle.pv_collect.specs.Gathering.{Part, missing_from}
 use Rattle.pv_collect.specs.Kept.{Kept, item_kept, entry_kept}
 use Rattle.pv_engine.specs.declared.out.Out.{Out}
 use Rattle.pv_engine.specs.Walks.{Adds, Walked}
-use Rattle.pv_engine.specs.Going.{item_in, Going, GoingPairs, WalkedPair}
-use Rattle.pv_engine.specs.Rules.{Child, part, pair, first, placed, placed_by, position_of}
+use Rattle.pv_engine.specs.Going.{item_in, from_position, Going, GoingPairs, WalkedPair}
+use Rattle.pv_engine.specs.Rules.{Child, part, pair, first, placed, placed_by}
 use Rattle.pv_engine.proofs.Walking.{adds_both, adds_same}
 use Rattle.pv_engine.proofs.Parts.{going_more, pairs_more}
 
@@ -95,46 +95,74 @@ taker_none f [] p ds e none = refl
 taker_none f (c ∷ cs) zero ds e none = cc
 taker_none f (c ∷ cs) (suc p) ds e none = taker_none f cs p ds e none
 
--- How far the walk of the items of a tuple has come, each by the child of its position.
-pub record Placing (old new : Out) (r : GatherRule) (children : List Child) (ts : List Tree) (i : ℕ) (kept : Kept Value) : Type 0 where
-  pub going : Going old new r.kind kept (take i (placed r children (length ts) 0 ts))
-  pub rest : drop i (placed r children (length ts) 0 ts) ≡ placed r children (length ts) i (drop i ts)
+-- what stands at a place of a list, and what is left from there
+at_drop : (ps : List ℕ) (i p : ℕ) → slice_get ps i ≡ Some p → drop i ps ≡ p ∷ drop (i + 1) ps
+at_drop [] i p e = absurd (none-some p e)
+at_drop (q ∷ ps) zero p e = let same : q ≡ p = cc in ap (λ x. x ∷ ps) same
+at_drop (q ∷ ps) (suc i) p e =
+    let more : suc i + 1 ≡ suc (i + 1) = omega arith in at_drop ps i p e ∙ ap (λ n. p ∷ drop n (q ∷ ps)) (sym more)
 
-module _ (r : GatherRule) (f : ℕ → Child) (cs : List ℕ) (ts : List Tree) (i : ℕ) (t : Tree) (ds : List ℕ)
-    (l : i < length ts) (here : t ≡ get_or ts i t) (takers : ds ≡ drop (position_of r.variadic_item_index r.positions (length ts) i) cs) where
+none_left : (ps : List ℕ) (i : ℕ) → slice_get ps i ≡ None → drop i ps ≡ []
+none_left [] zero e = refl
+none_left [] (suc i) e = refl
+none_left (q ∷ ps) zero e = absurd (none-some q (sym e))
+none_left (q ∷ ps) (suc i) e = none_left ps i e
+
+-- How far the walk of the items of a tuple has come, each by the child of the position that takes it.
+pub record Placing (old new : Out) (k : Collection) (children : List Child) (takers : List ℕ) (ts : List Tree) (i : ℕ) (kept : Kept Value) : Type 0 where
+  pub going : Going old new k kept (take i (placed children takers ts))
+  pub rest : drop i (placed children takers ts) ≡ placed children (drop i takers) (drop i ts)
+
+module _ (k : Collection) (f : ℕ → Child) (cs : List ℕ) (takers : List ℕ) (ts : List Tree) (i : ℕ) (t : Tree) (ds : List ℕ)
+    (l : i < length ts) (here : t ≡ get_or ts i t) (from : ds ≡ from_position (slice_get takers i) cs) where
   abbrev all_placed : List Part
-  all_placed = placed r (map f cs) (length ts) 0 ts
+  all_placed = placed (map f cs) takers ts
 
   next_item : drop i ts ≡ t ∷ drop (i + 1) ts
   next_item = drop_more ts i t l ∙ ap (λ x. x ∷ drop (i + 1) ts) (sym here)
 
-  pub placed_next : (old new next : Out) (kept more : Kept Value) (found : Option good.Good) → (ds ≡ [] → ⊥) → Placing old new r (map f cs) ts i kept
-      → Walked new next found (outcome_under (Index i) (item_in r.kind t (first (map f ds) t)))
-      → (length next.errors ≡ length old.errors → more ≡ item_kept kept found) → Placing old next r (map f cs) ts (i + 1) more
+  abbrev more_placed : List Part
+  more_placed = placed (map f cs) (drop (i + 1) takers) (drop (i + 1) ts)
+
+  opened_by : (o : Option ℕ) → slice_get takers i ≡ o → ds ≡ from_position o cs → (ds ≡ [] → ⊥)
+      → placed (map f cs) (drop i takers) (drop i ts) ≡ part (first (map f ds)) t ∷ more_placed
+  opened_by None e same some = absurd (some same)
+  opened_by (Some p) e same some =
+      ap (λ ps. placed (map f cs) ps (drop i ts)) (at_drop takers i p e) ∙ ap (placed (map f cs) (p ∷ drop (i + 1) takers)) next_item
+      ∙ ap (λ o. placed_by o t more_placed) (taker_some f cs p ds same some)
+
+  closed_by : (o : Option ℕ) → slice_get takers i ≡ o → ds ≡ from_position o cs → ds ≡ [] → placed (map f cs) (drop i takers) (drop i ts) ≡ []
+  closed_by None e same none = ap (λ ps. placed (map f cs) ps (drop i ts)) (none_left takers i e)
+  closed_by (Some p) e same none =
+      ap (λ ps. placed (map f cs) ps (drop i ts)) (at_drop takers i p e) ∙ ap (placed (map f cs) (p ∷ drop (i + 1) takers)) next_item
+      ∙ ap (λ o. placed_by o t more_placed) (taker_none f cs p ds same none)
+
+  pub placed_next : (old new next : Out) (kept more : Kept Value) (found : Option good.Good) → (ds ≡ [] → ⊥) → Placing old new k (map f cs) takers ts i kept
+      → Walked new next found (outcome_under (Index i) (item_in k t (first (map f ds) t)))
+      → (length next.errors ≡ length old.errors → more ≡ item_kept kept found) → Placing old next k (map f cs) takers ts (i + 1) more
   placed_next old new next kept more found some h w take_it =
       let p : Part = part (first (map f ds)) t in
-      let opened : drop i all_placed ≡ p ∷ placed r (map f cs) (length ts) (i + 1) (drop (i + 1) ts) =
-      h.rest ∙ ap (placed r (map f cs) (length ts) i) next_item
-      ∙ ap (λ o. placed_by o t (placed r (map f cs) (length ts) (i + 1) (drop (i + 1) ts))) (taker_some f cs _ ds takers some) in
+      let opened : drop i all_placed ≡ p ∷ more_placed = h.rest ∙ opened_by (slice_get takers i) refl from some in
       record {
-        going = subst (λ ps. Going old next r.kind more ps) (sym (take_next all_placed i p _ opened))
-            (going_more old new next r.kind kept more (take i all_placed) p i found (taken_length all_placed i p _ opened) h.going w take_it);
+        going = subst (λ ps. Going old next k more ps) (sym (take_next all_placed i p _ opened))
+            (going_more old new next k kept more (take i all_placed) p i found (taken_length all_placed i p _ opened) h.going w take_it);
         rest = drop_next all_placed i p _ opened;
       }
 
   -- past the positions
-  pub placed_past : (old new : Out) (kept : Kept Value) → ds ≡ [] → Placing old new r (map f cs) ts i kept → Going old new r.kind kept all_placed
+  pub placed_past : (old new : Out) (kept : Kept Value) → ds ≡ [] → Placing old new k (map f cs) takers ts i kept → Going old new k kept all_placed
   placed_past old new kept none h =
-      subst (λ ps. Going old new r.kind kept ps)
-      (take_whole all_placed i (h.rest ∙ ap (placed r (map f cs) (length ts) i) next_item
-      ∙ ap (λ o. placed_by o t (placed r (map f cs) (length ts) (i + 1) (drop (i + 1) ts))) (taker_none f cs _ ds takers none)))
-      h.going
+      subst (λ ps. Going old new k kept ps) (take_whole all_placed i (h.rest ∙ closed_by (slice_get takers i) refl from none)) h.going
+
+no_items : (children : List Child) (ps : List ℕ) → placed children ps [] ≡ []
+no_items children [] = refl
+no_items children (p ∷ ps) = refl
 
 -- after the last item
-pub placed_all : (r : GatherRule) (children : List Child) (ts : List Tree) (i : ℕ) (old new : Out) (kept : Kept Value) → drop i ts ≡ []
-    → Placing old new r children ts i kept → Going old new r.kind kept (placed r children (length ts) 0 ts)
-placed_all r children ts i old new kept e h =
-    subst (λ ps. Going old new r.kind kept ps) (take_whole _ i (h.rest ∙ ap (placed r children (length ts) i) e)) h.going
+pub placed_all : (k : Collection) (children : List Child) (takers : List ℕ) (ts : List Tree) (i : ℕ) (old new : Out) (kept : Kept Value) → drop i ts ≡ []
+    → Placing old new k children takers ts i kept → Going old new k kept (placed children takers ts)
+placed_all k children takers ts i old new kept e h =
+    subst (λ ps. Going old new k kept ps) (take_whole _ i (h.rest ∙ ap (placed children (drop i takers)) e ∙ no_items children (drop i takers))) h.going
 
 -- one more missing position
 missing_suc : (i n : ℕ) (t : Tree) → missing_from i (suc n) t ≡ missing_from i n t ++ missing_from (i + n) 1 t

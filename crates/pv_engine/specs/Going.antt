@@ -1,5 +1,5 @@
 -- The parts of a collection, each as the walk of the whole sees it, and how far that walk has come.
-use Rattle.std.specs.Prelude.{◌≡◌, ℕ, Bool, true, not, ◌&&◌, if◌then◌else◌, List, [], Option, None, Some, flat_map}
+use Rattle.std.specs.Prelude.{◌≡◌, ℕ, Bool, true, not, ◌&&◌, if◌then◌else◌, List, [], drop, Option, None, Some, flat_map}
 use Rattle.pv_tree.specs.declared.Tree.{Tree}
 use Rattle.pv_tree.specs.declared.Tree.TheVariants as tree
 use Rattle.pv_tree.specs.declared.Value.{Value}
@@ -34,6 +34,11 @@ item_in k = hashed (needs_hash k) kind.SetItemNotHashable
 -- the key of a member, which is an error of the name
 abbrev pub key_in : List ℕ → Outcome → Outcome
 key_in name = hashed true kind.DictKeyNotHashable (tree.Str name)
+
+-- the children from a position on; none without a position
+abbrev pub from_position : Option ℕ → List ℕ → List ℕ
+from_position None cs = []
+from_position (Some p) cs = drop p cs
 
 -- These items were walked: their errors were added, and where there is none they are kept.
 pub record Going (old new : Out) (k : Collection) (kept : Kept Value) (ps : List Part)

@@ -1,5 +1,5 @@
 -- What the nodes with child schemas give for a tree, by what their children give.
-use Rattle.std.specs.Prelude.{ℕ, ◌+◌, ◌-◌, nat_lt, nat_le, if◌then◌else◌, List, [], ◌∷◌, map, length, slice_get, Option, None, Some, Bool, true, false}
+use Rattle.std.specs.Prelude.{ℕ, zero, suc, ◌+◌, ◌-◌, List, [], ◌∷◌, ◌++◌, map, length, slice_get, Option, None, Some, Bool, true, false}
 use Rattle.pv_tree.specs.declared.Tree.{Tree, out-Tree}
 use Rattle.pv_tree.specs.declared.Tree.TheVariants as tree
 use Rattle.pv_tree.specs.Parts.{items_at, members_at, null_at}
@@ -35,23 +35,28 @@ sequence_in r item t (Some ts) = gather_items r (length ts) t (map (part item) t
 unfoldable pub sequence : GatherRule → Child → Tree → Outcome
 sequence r item t = sequence_in r item t (items_at (out-Tree t))
 
--- the position that takes the item at place i where v takes the items that are left between those
--- of the positions before it and those of the positions after it, which take the last items
-abbrev pub between : ℕ → ℕ → ℕ → ℕ → ℕ
-between v positions items i =
-    if nat_lt i v then i else
-    (if nat_le (items - i) (positions - 1 - v) then positions - (items - i) else v)
+-- so many positions one after another, the first at this one
+abbrev pub run_of : ℕ → ℕ → List ℕ
+run_of at zero = []
+run_of at (suc n) = at ∷ run_of (at + 1) n
 
--- the position that takes the item at place i where v takes none
-abbrev pub without : ℕ → ℕ → ℕ
-without v i = if nat_lt i v then i else i + 1
+-- one position so many times
+abbrev pub times : ℕ → ℕ → List ℕ
+times v zero = []
+times v (suc n) = v ∷ times v n
 
--- The position that takes the item at place i of so many items. Without a variadic position it is
--- i. Where there are fewer items than other positions, the variadic position v takes none.
-abbrev pub position_of : Option ℕ → ℕ → ℕ → ℕ → ℕ
-position_of None positions items i = i
-position_of (Some v) positions items i =
-    if nat_lt items (positions - 1) then without v i else between v positions items i
+-- The positions that take so many items, in the order of the items: all positions one after
+-- another. A variadic position v takes the items that the others leave: those before it take the
+-- first items, those behind it the last ones. Where there are too few items for the others, v
+-- takes none.
+abbrev pub takers_of : Option ℕ → ℕ → ℕ → List ℕ
+takers_of None positions items = run_of 0 positions
+takers_of (Some v) positions items =
+    run_of 0 v ++ (times v (items - (positions - 1)) ++ run_of (v + 1) (positions - 1 - v))
+
+-- the same by a rule
+abbrev pub takers : GatherRule → ℕ → List ℕ
+takers r items = takers_of r.variadic_item_index r.positions items
 
 -- an item by the child of its position, before the parts behind it; past the positions there is
 -- none
@@ -59,17 +64,18 @@ abbrev pub placed_by : Option Child → Tree → List Part → List Part
 placed_by None t ps = []
 placed_by (Some child) t ps = part child t ∷ ps
 
--- the items from place i on, each by its position; those past the positions are left out
-abbrev pub placed : GatherRule → List Child → ℕ → ℕ → List Tree → List Part
-placed r children items i [] = []
-placed r children items i (t ∷ ts) =
-    let position = position_of r.variadic_item_index r.positions items i in
-    placed_by (slice_get children position) t (placed r children items (i + 1) ts)
+-- the items, each by the child of the position that takes it; those past the positions are left
+-- out
+abbrev pub placed : List Child → List ℕ → List Tree → List Part
+placed children [] ts = []
+placed children (p ∷ ps) [] = []
+placed children (p ∷ ps) (t ∷ ts) = placed_by (slice_get children p) t (placed children ps ts)
 
 -- a tuple: every item by the child of its position
 abbrev pub tuple_in : GatherRule → List Child → Tree → Option (List Tree) → Outcome
 tuple_in r children t None = wrong_type r t
-tuple_in r children t (Some ts) = gather_items r (length ts) t (placed r children (length ts) 0 ts)
+tuple_in r children t (Some ts) =
+    gather_items r (length ts) t (placed children (takers r (length ts)) ts)
 
 -- of a tree
 unfoldable pub tuple : GatherRule → List Child → Tree → Outcome

@@ -1,33 +1,38 @@
 //! Which position of a tuple takes an item.
 
-ghost use Rattle.std.specs.Prelude.{◌≡◌, ◌≤◌, ◌<◌, ◌+◌, ◌^◌};
+ghost use Rattle.std.specs.Prelude.{◌≡◌, Some, slice_get};
 ghost use Rattle.pv_engine.specs.Rules as spec;
 
-fn between(v: u64, positions: u64, items: u64, place: u64) -> u64
-    ensures { result ≡ spec.between v positions items place }
+/// The position that takes the item at this place where the position `v` takes the items that the
+/// others leave.
+#[tactic(auto, using(crate::proofs::Takers::first_ones, crate::proofs::Takers::repeated_one, crate::proofs::Takers::last_ones, crate::proofs::Takers::no_more))]
+fn variadic_taker(v: u64, positions: u64, items: u64, place: u64) -> Option<u64>
+    ensures { result ≡ slice_get (spec.takers_of (Some v) positions items) place }
 {
     if place < v {
-        return place;
+        return Some(place);
     }
-    let left = items.saturating_sub(place);
-    if left <= positions.saturating_sub(1).saturating_sub(v) {
-        positions.saturating_sub(left)
+    let others = positions.saturating_sub(1);
+    let left = items.saturating_sub(others);
+    let behind = place - v;
+    if behind < left {
+        return Some(v);
+    }
+    let last = behind - left;
+    if last < others.saturating_sub(v) {
+        Some(v + 1 + last)
     } else {
-        v
+        None
     }
 }
 
-/// The position that takes the item at this place of so many items.
-pub(crate) fn position_of(variadic: Option<u64>, positions: u64, items: u64, place: u64) -> u64
-    requires { place < items }
-    ensures { result ≡ spec.position_of variadic positions items place }
+/// The position that takes the item at this place of so many items, where one does.
+#[tactic(auto, using(crate::proofs::Takers::run_in, crate::proofs::Takers::run_past))]
+pub(crate) fn taker(variadic: Option<u64>, positions: u64, items: u64, place: u64) -> Option<u64>
+    ensures { result ≡ slice_get (spec.takers_of variadic positions items) place }
 {
     let Some(v) = variadic else {
-        return place;
+        return if place < positions { Some(place) } else { None };
     };
-    if items < positions.saturating_sub(1) {
-        if place < v { place } else { place + 1 }
-    } else {
-        between(v, positions, items, place)
-    }
+    variadic_taker(v, positions, items, place)
 }

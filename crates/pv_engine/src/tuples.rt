@@ -1,13 +1,14 @@
 //! Tuples: every item by the child of its position.
 
-ghost use Rattle.std.specs.Prelude.{map, drop, length, ◌≡◌, ◌<◌};
+ghost use Rattle.std.specs.Prelude.{map, length, slice_get, ◌≡◌};
 ghost use Rattle.pv_collect.specs.Gathering.{gather_items};
 ghost use Rattle.pv_engine.specs.Rules as gives;
+ghost use Rattle.pv_engine.specs.Going.{from_position};
 ghost use Rattle.pv_engine.specs.Walks.{Walks};
 ghost use Rattle.pv_engine.specs.Nests.{Nests, below};
 
 use crate::out::Out;
-use crate::positions::position_of;
+use crate::positions::taker;
 use crate::rules::Rules;
 use crate::scene::Scene;
 use pv_collect::KeptItems;
@@ -16,17 +17,14 @@ use pv_rules::GatherRule;
 use pv_text::Memory;
 use pv_tree::Tree;
 
-/// The children from the one on that takes the item at this place of so many items; none past the
-/// positions.
+/// The children from the one on that takes the item at this place of so many items; none where no
+/// position takes it.
 fn children_from<'c>(rule: &GatherRule, children: &'c [u32], items: u64, place: u64) -> &'c [u32]
-    requires { place < items }
-    ensures { result.now ≡ drop (gives.position_of rule.now.variadic_item_index rule.now.positions items place) children.now }
+    ensures { result.now ≡ from_position (slice_get (gives.takers rule.now items) place) children.now }
 {
-    let position = position_of(rule.variadic_item_index, rule.positions, items, place) as usize;
-    if position < children.len() {
-        &children[position..]
-    } else {
-        &[]
+    match taker(rule.variadic_item_index, rule.positions, items, place) {
+        Some(position) if (position as usize) < children.len() => &children[position as usize..],
+        _ => &[],
     }
 }
 
@@ -46,7 +44,7 @@ impl<
     ) -> Result<Option<Good>, Memory>
         requires { Nests F.Fn self.now }
         ensures { Walks out.old out.new result (gather_items rule.now (length items.now) tree.now
-            (gives.placed rule.now (map (below self.now) children.now) (length items.now) 0 items.now)) }
+            (gives.placed (map (below self.now) children.now) (gives.takers rule.now (length items.now)) items.now)) }
     {
         let mark = out.errors.len();
         let count = items.len() as u64;

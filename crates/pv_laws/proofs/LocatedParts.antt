@@ -19,7 +19,7 @@ use Rattle.pv_fault.specs.Under.{under, all_under}
 use Rattle.pv_equality.specs.Hashable.{hashable}
 use Rattle.pv_fault.specs.Single.{error_here}
 use Rattle.pv_collect.specs.Gathering.{Part, needs_hash, errors_of, item_errors, items_errors, key_errors, pair_errors, missing_from, missing_of}
-use Rattle.pv_engine.specs.Rules.{Child, part, position_of, placed, placed_by, pair}
+use Rattle.pv_engine.specs.Rules.{Child, part, placed, placed_by, pair}
 use Rattle.pv_laws.proofs.Each.{each_append, each_map, each_more, found_is}
 use Rattle.pv_laws.specs.Located.{IsPart, IsLacking, IsKey, IsLocated, IsOutcomeOf}
 
@@ -89,12 +89,12 @@ module _ (t : Tree) (all : List Tree) (opens : out-Tree t ≡ Tree-F.Array all) 
   placed_part None is i u ps at h = tt
   placed_part (Some child) is i u ps at h = (is_item i u at, is u, h)
 
-  pub tuple_parts : (r : GatherRule) (children : List Child) → AllByRecursion Locates children → (items i : ℕ) (ts : List Tree) → IsRest i ts → AreParts t i (placed r children items i ts)
-  tuple_parts r children is items i [] rest = tt
-  tuple_parts r children is items i (u ∷ ts) rest =
-      let position = position_of r.variadic_item_index r.positions items i in
-      placed_part (slice_get children position) (found_is Locates children position is) i u (placed r children items (i + 1) ts) (rest 0 i (omega arith))
-      (tuple_parts r children is items (i + 1) ts (λ j k e. rest (suc j) k (omega arith)))
+  pub tuple_parts : (children : List Child) → AllByRecursion Locates children → (takers : List ℕ) (i : ℕ) (ts : List Tree) → IsRest i ts → AreParts t i (placed children takers ts)
+  tuple_parts children is [] i ts rest = tt
+  tuple_parts children is (p ∷ ps) i [] rest = tt
+  tuple_parts children is (p ∷ ps) i (u ∷ ts) rest =
+      placed_part (slice_get children p) (found_is Locates children p is) i u (placed children ps ts) (rest 0 i (omega arith))
+      (tuple_parts children is ps (i + 1) ts (λ j k e. rest (suc j) k (omega arith)))
 
   -- the input of an error of a lacking item is the whole array
   missing_located_from : (i n : ℕ) → length all ≤ i → AllByRecursion (IsAt t) (missing_from i n t)

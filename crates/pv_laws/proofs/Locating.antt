@@ -24,7 +24,7 @@ use Rattle.pv_plan.proofs.Placed.{stands}
 use Rattle.pv_scalar.specs.Tests.{Graded, outcome_of}
 use Rattle.pv_scalar.specs.Scalars.{scalar_of, answer_of}
 use Rattle.pv_collect.specs.Gathering.{Part, Pair, items_errors, missing_of, wanted, measured, unless_errors, type_error, pair_errors, gather_items, gather_pairs}
-use Rattle.pv_engine.specs.Rules.{Child, part, placed, pair, sequence, sequence_in, tuple, tuple_in, dict, dict_in, first, second, collection, collection_of, nullable, nullable_in}
+use Rattle.pv_engine.specs.Rules.{Child, part, takers, placed, pair, sequence, sequence_in, tuple, tuple_in, dict, dict_in, first, second, collection, collection_of, nullable, nullable_in}
 use Rattle.pv_engine.specs.Meaning.{meaning, meaning_at, node, node_at, by_slot, strict_in}
 use Rattle.pv_laws.specs.Located.{IsOutcomeOf}
 use Rattle.pv_laws.specs.Locations.{keeps_locations, KeepsLocations}
@@ -64,7 +64,8 @@ sequence_located r item is t x opens = one_located (type_error r.kind) t
 
 tuple_located : (r : GatherRule) (children : List Child) → AllByRecursion Locates children → (t : Tree) (x : Tree-F Tree) → out-Tree t ≡ x → IsOutcomeOf t (tuple_in r children t (items_at x))
 tuple_located r children are t (Tree-F.Array ts) opens =
-    array_located r t ts (placed r children (length ts) 0 ts) opens (tuple_parts t ts opens r children are (length ts) 0 ts (λ j k e. ap (slice_get ts) (omega arith)))
+    array_located r t ts (placed children (takers r (length ts)) ts) opens
+    (tuple_parts t ts opens children are (takers r (length ts)) 0 ts (λ j k e. ap (slice_get ts) (omega arith)))
 tuple_located r children are t x opens = one_located (type_error r.kind) t
 
 dict_located : (r : GatherRule) (key value : Child) → Locates key → Locates value → (t : Tree) (x : Tree-F Tree) → out-Tree t ≡ x → IsOutcomeOf t (dict_in r key value t (members_at x))
