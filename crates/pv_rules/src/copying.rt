@@ -2,11 +2,12 @@
 
 ghost use Rattle.std.specs.Prelude.{◌≡◌, IfOk};
 
+use crate::fields_rule::{AliasRule, FieldRule, FieldsRule};
 use crate::literal::{EnumMember, Literal};
 use crate::scalar_rule::{EnumRule, ScalarRule, StrRule, UrlRule};
 use crate::settings::Settings;
 use pv_text::{Memory, Text};
-use pv_tree::{Names, Row};
+use pv_tree::{Loc, Names, Row};
 use sqlite_items::Items;
 use std::alloc::Global;
 
@@ -160,6 +161,74 @@ impl Settings {
             str_strip_whitespace: self.str_strip_whitespace,
             str_min_length: self.str_min_length,
             str_max_length: self.str_max_length,
+        })
+    }
+}
+
+fn copy_paths(alloc: Global, paths: &[Loc]) -> Result<Items<Loc>, Memory>
+    ensures { IfOk result (λ copied. copied ≡ paths.now) }
+{
+    let mut copied = Vec::with_capacity(alloc, paths.len())?;
+    for path in paths {
+        copied.push(path.copy(alloc)?)?;
+    }
+    Ok(Items::from_vec(copied))
+}
+
+impl AliasRule {
+    /// An equal alias.
+    pub fn copy(&self, alloc: Global) -> Result<AliasRule, Memory>
+        ensures { IfOk result (λ copied. copied ≡ self.now) }
+    {
+        Ok(AliasRule {
+            paths: copy_paths(alloc, self.paths.as_slice())?,
+        })
+    }
+}
+
+fn copy_alias(alloc: Global, alias: &Option<AliasRule>) -> Result<Option<AliasRule>, Memory>
+    ensures { IfOk result (λ copied. copied ≡ alias.now) }
+{
+    match alias {
+        Some(alias) => Ok(Some(alias.copy(alloc)?)),
+        None => Ok(None),
+    }
+}
+
+impl FieldRule {
+    /// An equal rule.
+    pub fn copy(&self, alloc: Global) -> Result<FieldRule, Memory>
+        ensures { IfOk result (λ copied. copied ≡ self.now) }
+    {
+        Ok(FieldRule {
+            name: self.name.share(alloc)?,
+            validation_alias: copy_alias(alloc, &self.validation_alias)?,
+            serialization_alias: copy_text(alloc, &self.serialization_alias)?,
+            serialization_exclude: self.serialization_exclude,
+            required: self.required,
+        })
+    }
+}
+
+fn copy_fields(alloc: Global, fields: &[FieldRule]) -> Result<Items<FieldRule>, Memory>
+    ensures { IfOk result (λ copied. copied ≡ fields.now) }
+{
+    let mut copied = Vec::with_capacity(alloc, fields.len())?;
+    for field in fields {
+        copied.push(field.copy(alloc)?)?;
+    }
+    Ok(Items::from_vec(copied))
+}
+
+impl FieldsRule {
+    /// An equal rule.
+    pub fn copy(&self, alloc: Global) -> Result<FieldsRule, Memory>
+        ensures { IfOk result (λ copied. copied ≡ self.now) }
+    {
+        Ok(FieldsRule {
+            kind: self.kind,
+            fields: copy_fields(alloc, self.fields.as_slice())?,
+            extra_behavior: self.extra_behavior,
         })
     }
 }

@@ -2,12 +2,14 @@
 #![tactic(auto)]
 
 mod copying;
+mod fields_rule;
 mod gather_rule;
 mod literal;
 mod scalar_rule;
 mod settings;
 
 pub use copying::{copy_literals, copy_members, copy_names};
+pub use fields_rule::{AliasRule, FieldRule, FieldsKind, FieldsRule, OnError};
 pub use gather_rule::{Collection, GatherRule};
 pub use literal::{EnumMember, Literal};
 pub use scalar_rule::{BytesRule, EnumRule, IntRule, ScalarRule, StrRule, SubType, UrlRule};
