@@ -18,6 +18,12 @@ pub struct Settings {
     pub strict: bool,
     pub extra_fields_behavior: ExtraBehavior,
     pub populate_by_name: bool,
+    /// Whether a field that has an alias is looked for under it.
+    pub validate_by_alias: bool,
+    /// Whether it is looked for under its name. Besides, `populate_by_name` says so too.
+    pub validate_by_name: bool,
+    /// Whether a field is written under its alias.
+    pub serialize_by_alias: bool,
     pub loc_by_alias: bool,
     pub validate_default: bool,
     pub str_strip_whitespace: bool,
@@ -35,6 +41,9 @@ impl Settings {
             strict: false,
             extra_fields_behavior: ExtraBehavior::Ignore,
             populate_by_name: false,
+            validate_by_alias: true,
+            validate_by_name: false,
+            serialize_by_alias: false,
             loc_by_alias: true,
             validate_default: false,
             str_strip_whitespace: false,
