@@ -26,11 +26,15 @@ impl<T: Drop> MemberRow<T> {
     ghost use Rattle.std.specs.Prelude.{◌≡◌, IfOk, IfSome};
     ghost use Rattle.pv_tree.specs.Names.{HasDistinctNames};
 
-    /// Takes the list over as it is.
-    pub(crate) fn from_vec(alloc: Global, members: Vec<(Text, T)>) -> Result<MemberRow<T>, Memory>
+    /// Takes the list over as it is, and gives the room back that it does not need.
+    pub(crate) fn from_vec(
+        alloc: Global,
+        mut members: Vec<(Text, T)>,
+    ) -> Result<MemberRow<T>, Memory>
         requires { HasDistinctNames members.items }
         ensures { IfOk result (λ r. r.members ≡ members.items) }
     {
+        members.shrink_to_fit();
         Ok(MemberRow {
             inner: Rc::new(alloc, members)?,
         })

@@ -24,10 +24,11 @@ impl<T> Model for Row<T> {
 }
 
 impl<T: Drop> Row<T> {
-    /// Takes the list over as it is.
-    pub fn from_vec(alloc: Global, items: Vec<T>) -> Result<Row<T>, Memory>
+    /// Takes the list over as it is, and gives the room back that it does not need.
+    pub fn from_vec(alloc: Global, mut items: Vec<T>) -> Result<Row<T>, Memory>
         ensures { IfOk result (λ r. r ≡ items.items) }
     {
+        items.shrink_to_fit();
         Ok(Row {
             inner: Rc::new(alloc, items)?,
         })

@@ -25,34 +25,43 @@ use Rattle.pv_tree.specs.declared.row.Row.TheView.{view, invariant}
 use Rattle.pv_tree.specs.contracts.row.Row as C
 use Rattle.pv_tree.specs.contracts.row.Row.TheInside as I
 
+-- a list of g's values
 abbrev pub the_former : Former {0} → Former {0}
 the_former g = list g
 
+-- it weighs as a list does
 abbrev pub the_weighed : {g : Former {0}} → Weighed g → Weighed (the_former g)
 the_weighed w = w_list w
 
+-- the row without items
 pub the_empty : List ⊥
 the_empty = []
 
+-- the items of a row
 abbrev pub the_items : (X : Type 0) → List X → List X
 the_items X d = d
 
+-- they are what a walk through the former meets
 pub the_items_listed : (X : Type 0) (d : List X) → listed _ (children (the_former this) X d) ≡
     the_items X d
 the_items_listed X d = list-listed X d
 
+-- what a row is made of: the pointer, and the vector behind it
 abbrev fields : Former {0}
 fields =
     via (pair (const Ptr) (vec.the_former this Global)) Inside (λ X a. (a.inner.ptr, a.inner.value))
     (λ X v. record { inner = record { ptr = v.0; value = v.1 } }) (λ X a. refl) (λ X v. refl)
 
+-- a counted pointer with another value behind it
 abbrev with_value : {X Y : Type 0} → Rc X Global → Y → Rc Y Global
 with_value b y = record { ptr = b.ptr; value = y }
 
+-- a counted pointer to a type
 abbrev rc_of : RattleType → RattleType
 rc_of R = rc.the_row R heap.the_row ghosts
 
 module _ (R S : RattleType) (h : R.Denot → S.Denot) where
+  -- types that look alike do so behind a counted pointer
   rc_places : Alike R S h → Alike (rc_of R) (rc_of S) (λ b. with_value b (h b.value))
   unfolding part_of
   rc_places a = record {
@@ -66,6 +75,7 @@ module _ (R S : RattleType) (h : R.Denot → S.Denot) where
   }
 
 module _ (R S : RattleType) (h : R.Denot → S.Denot) where
+  -- rows of types that look alike look alike
   pub the_places : Alike R S h → Alike (C.the_row R) (C.the_row S)
       ((the_former this).map R.Denot S.Denot h)
   the_places a =
@@ -78,6 +88,7 @@ module _ (R S : RattleType) (h : R.Denot → S.Denot) where
       _ (λ d. refl) refl
       (laid _ _ _ (rc_places _ _ (vec.mapped h) (vec.the_places heap.the_row ghosts R S h a)), tt))
 
+  -- the codes of rows follow those of their items
   pub the_codes_placed : Recodes R S h → Recodes (C.the_row R) (C.the_row S)
       ((the_former this).map R.Denot S.Denot h)
   the_codes_placed e d = sym (code_map R.coded.code S.coded.code h (λ x. sym (e x)) d)
