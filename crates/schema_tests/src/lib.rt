@@ -4,7 +4,6 @@
 #![tactic(auto)]
 
 #[cfg(test)]
-#[cfg(test)]
 mod commands;
 #[cfg(test)]
 mod depth;
@@ -20,7 +19,5 @@ mod plans;
 mod runs;
 #[cfg(test)]
 mod schemas;
-#[cfg(test)]
-mod settings;
 #[cfg(test)]
 mod values;

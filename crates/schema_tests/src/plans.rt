@@ -5,10 +5,12 @@ use std::alloc::Global;
 use std::process::Abort;
 
 /// How many nodes a schema has, the schema, and the records of its plan: what each does, its
-/// children and whether it is strict.
+/// children, whether it is strict and whether it validates defaults.
 const PLANS: &str =
     r#"7 {"type":"tuple","items_schema":[{"type":"list","items_schema":{"type":"any"}},{"type":"dict","values_schema":{"type":"nullable","schema":{"type":"str","pattern":"a|b"}}},{"type":"list","strict":true}]} tuple 1 3 6;list 2;scalar;dict 7 4;nullable 5;scalar;list 7 strict;scalar;
 3 {"type":"dict","keys_schema":{"type":"any"},"values_schema":{"type":"any"}} dict 1 2;scalar;scalar;scalar;
+6 {"type":"model","cls":"M","config":{"strict":true,"validate_default":true},"schema":{"type":"model-fields","fields":{"a":{"type":"model-field","schema":{"type":"default","default":1,"validate_default":false,"schema":{"type":"int"}}},"b":{"type":"model-field","schema":{"type":"int","strict":false}}},"extras_schema":{"type":"str"}}} model 1 strict validates;fields 2 4 5 strict validates;default 3 strict;scalar strict validates;scalar validates;scalar strict validates;scalar;
+2 {"type":"typed-dict","fields":{"a":{"type":"typed-dict-field","schema":{"type":"int"}}},"config":{"strict":true}} fields 1 strict;scalar strict;scalar;
 1 {"type":"any"} scalar;scalar;"#;
 
 fn name_of(op: &Op) -> &'static str {
@@ -22,6 +24,9 @@ fn name_of(op: &Op) -> &'static str {
             Collection::Dict => "dict",
         },
         Op::Nullable => "nullable",
+        Op::Fields(_) => "fields",
+        Op::Model { .. } => "model",
+        Op::Default { .. } => "default",
     }
 }
 
@@ -35,6 +40,9 @@ fn written(rt: &impl Abort, alloc: Global, plan: &Plan) -> String {
         }
         if record.strict {
             lines.push_str(" strict").expect(rt, "memory");
+        }
+        if record.validate_default {
+            lines.push_str(" validates").expect(rt, "memory");
         }
         lines.push_str(";").expect(rt, "memory");
     }
