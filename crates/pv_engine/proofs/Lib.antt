@@ -3,3 +3,4 @@ pub mod Walking
 pub mod Parts
 pub mod Takers
 pub mod Turns
+pub mod ScalarChildren
