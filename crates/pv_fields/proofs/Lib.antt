@@ -3,3 +3,4 @@ pub mod Making
 pub mod Placing
 pub mod Reaching
 pub mod Marks
+pub mod Parts
