@@ -1,11 +1,13 @@
 -- What is kept of fields and extra keys while none of them failed, and the value that it makes.
-use Rattle.std.specs.Prelude.{ℕ, Bool, true, false, List, [], ◌∷◌, ◌++◌, length, if◌then◌else◌, Option, None, Some}
+use Rattle.std.specs.Prelude.{ℕ, List, [], ◌∷◌, ◌++◌, length, Option, None, Some}
 use Rattle.std.specs.List.{flat_map}
 use Rattle.pv_tree.specs.declared.Value.{Value}
 use Rattle.pv_rules.specs.declared.FieldsKind.{FieldsKind}
 use Rattle.pv_fault.specs.declared.Grade.{Grade}
 use Rattle.pv_fault.specs.declared.Grade.TheVariants as grade
 use Rattle.pv_fault.specs.declared.Good.{Good}
+use Rattle.pv_fault.specs.declared.Outcome.{Outcome}
+use Rattle.pv_fault.specs.declared.Outcome.TheVariants as outcome
 use Rattle.pv_fault.specs.Grades.{least, least_of}
 use Rattle.pv_fault.specs.Counts.{sum_of, sum_of_two}
 use Rattle.pv_fields.specs.FieldList.{Answered, Extra, all_outcomes, field_value, extra_value, given_names, grade_in, count_in, value_of}
@@ -18,6 +20,11 @@ pub record KeptParts : Type 0 where
   pub extra : List (List ℕ × Value)
   pub grade : Grade
   pub count : Option ℕ
+
+-- the success of an outcome
+abbrev pub good_of : Outcome → Option Good
+good_of (outcome.Good v g n) = Some (record { value = v; grade = g; fields = n })
+good_of (outcome.Bad es) = None
 
 -- before the first field
 abbrev pub nothing_kept : KeptParts

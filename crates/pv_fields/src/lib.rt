@@ -2,11 +2,13 @@
 //! fields and extra keys make together.
 #![tactic(auto)]
 
+mod directory;
 mod field_paths;
 mod finding;
 mod following;
 mod found;
 mod kept;
+mod laws;
 mod plan;
 mod tally;
 mod values;
@@ -14,4 +16,5 @@ mod values;
 pub use finding::Finds;
 pub use found::Found;
 pub use kept::KeptFields;
+pub use laws::kept_parts_make_the_whole;
 pub use plan::FieldPlan;

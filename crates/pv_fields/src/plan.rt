@@ -3,7 +3,7 @@
 use crate::field_paths::{FieldPaths, all_field_paths};
 use crate::following::first_found;
 use crate::found::Found;
-use pv_rules::{ExtraBehavior, FieldRule, FieldsRule, Settings};
+use pv_rules::{ExtraBehavior, FieldRule, FieldsKind, FieldsRule, Settings};
 use pv_text::{Memory, Text};
 use pv_tree::{Loc, Members, Tree};
 use sqlite_items::Items;
@@ -70,6 +70,13 @@ impl FieldPlan {
         ensures { result ≡ length self.now.0.fields }
     {
         self.rule.fields.len()
+    }
+
+    /// Whether the fields are those of a model or those of a typed dict.
+    pub fn kind(&self) -> FieldsKind
+        ensures { result ≡ self.now.0.kind }
+    {
+        self.rule.kind
     }
 
     /// The name of a field.
