@@ -2,7 +2,6 @@
 
 use crate::plan::FieldPlan;
 use crate::tally::Tally;
-use crate::values::value_of;
 use pv_fault::{Good, Grade, add_counts};
 use pv_text::{Memory, Text};
 use pv_tree::Value;
@@ -66,7 +65,7 @@ impl KeptFields {
             return Ok(());
         }
         self.tally.add(&found);
-        self.given.push(name.share(alloc)?)?;
+        add_name(alloc, &mut self.given, name, &found)?;
         add(alloc, &mut self.fields, name, found)
     }
 
@@ -119,7 +118,7 @@ impl KeptFields {
             tally,
         } = self;
         let count = add_counts(Some(given.len() as u64), tally.count);
-        let value = value_of(alloc, plan.rule.kind, &plan.names, fields, given, extra)?;
+        let value = plan.value_of(alloc, fields, given, extra)?;
         Ok(Good {
             value,
             grade: tally.grade,
@@ -129,7 +128,24 @@ impl KeptFields {
 }
 
 ghost use Rattle.std.specs.Prelude.{◌≡◌, ◌++◌, OnOk};
+ghost use Rattle.pv_fields.specs.FieldList.{name_under};
 ghost use Rattle.pv_fields.specs.Kept.{found_under};
+
+/// Adds the name of something, where it was found.
+fn add_name(
+    alloc: Global,
+    all: &mut Vec<Text>,
+    name: &Text,
+    found: &Option<Good>,
+) -> Result<(), Memory>
+    ensures { OnOk result (all.new.items ≡ all.old.items ++ name_under name.now found.now) }
+{
+    match found {
+        Some(_) => all.push(name.share(alloc)?)?,
+        None => {}
+    }
+    Ok(())
+}
 
 /// Adds a value under a name, where it was found.
 fn add(
