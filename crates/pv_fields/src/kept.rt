@@ -1,5 +1,9 @@
 //! The fields and extra keys of an object, while none of them failed.
 
+ghost use Rattle.std.specs.Prelude.{◌≡◌, ◌++◌, OnOk};
+ghost use Rattle.pv_fields.specs.FieldList.{name_under};
+ghost use Rattle.pv_fields.specs.Kept.{found_under};
+
 use crate::plan::FieldPlan;
 use crate::tally::Tally;
 use pv_fault::{Good, Grade, add_counts};
@@ -7,6 +11,37 @@ use pv_text::{Memory, Text};
 use pv_tree::Value;
 use std::alloc::Global;
 use std::marker::Model;
+
+/// Adds the name of something, where it was found.
+fn add_name(
+    alloc: Global,
+    all: &mut Vec<Text>,
+    name: &Text,
+    found: &Option<Good>,
+) -> Result<(), Memory>
+    ensures { OnOk result (all.new.items ≡ all.old.items ++ name_under name.now found.now) }
+{
+    match found {
+        Some(_) => all.push(name.share(alloc)?)?,
+        None => {}
+    }
+    Ok(())
+}
+
+/// Adds a value under a name, where it was found.
+fn add(
+    alloc: Global,
+    all: &mut Vec<(Text, Value)>,
+    name: &Text,
+    found: Option<Good>,
+) -> Result<(), Memory>
+    ensures { OnOk result (all.new.items ≡ all.old.items ++ found_under name.now found) }
+{
+    if let Some(good) = found {
+        all.push((name.share(alloc)?, good.value))?;
+    }
+    Ok(())
+}
 
 /// What is kept of the fields and the extra keys of an object so far.
 #[derive(Drop)]
@@ -48,6 +83,14 @@ impl KeptFields {
         })
     }
 
+    /// Adds a field with its value, where it was found.
+    fn add_field(&mut self, alloc: Global, name: &Text, found: Option<Good>) -> Result<(), Memory>
+        ensures { OnOk result (self.new ≡ default_kept self.old name.now found) }
+    {
+        self.tally.add(&found);
+        add(alloc, &mut self.fields, name, found)
+    }
+
     /// Keeps the success of a field that was found in the object, where there are `mark` errors, as before the
     /// first field. Else nothing changes.
     pub fn given(
@@ -64,9 +107,8 @@ impl KeptFields {
         if errors != mark {
             return Ok(());
         }
-        self.tally.add(&found);
         add_name(alloc, &mut self.given, name, &found)?;
-        add(alloc, &mut self.fields, name, found)
+        self.add_field(alloc, name, found)
     }
 
     /// The same of the default of a field that was not found.
@@ -84,8 +126,7 @@ impl KeptFields {
         if errors != mark {
             return Ok(());
         }
-        self.tally.add(&found);
-        add(alloc, &mut self.fields, name, found)
+        self.add_field(alloc, name, found)
     }
 
     /// The same of an extra key.
@@ -125,39 +166,4 @@ impl KeptFields {
             fields: count,
         })
     }
-}
-
-ghost use Rattle.std.specs.Prelude.{◌≡◌, ◌++◌, OnOk};
-ghost use Rattle.pv_fields.specs.FieldList.{name_under};
-ghost use Rattle.pv_fields.specs.Kept.{found_under};
-
-/// Adds the name of something, where it was found.
-fn add_name(
-    alloc: Global,
-    all: &mut Vec<Text>,
-    name: &Text,
-    found: &Option<Good>,
-) -> Result<(), Memory>
-    ensures { OnOk result (all.new.items ≡ all.old.items ++ name_under name.now found.now) }
-{
-    match found {
-        Some(_) => all.push(name.share(alloc)?)?,
-        None => {}
-    }
-    Ok(())
-}
-
-/// Adds a value under a name, where it was found.
-fn add(
-    alloc: Global,
-    all: &mut Vec<(Text, Value)>,
-    name: &Text,
-    found: Option<Good>,
-) -> Result<(), Memory>
-    ensures { OnOk result (all.new.items ≡ all.old.items ++ found_under name.now found) }
-{
-    if let Some(good) = found {
-        all.push((name.share(alloc)?, good.value))?;
-    }
-    Ok(())
 }
