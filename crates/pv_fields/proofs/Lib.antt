@@ -4,3 +4,4 @@ pub mod Placing
 pub mod Reaching
 pub mod Marks
 pub mod Parts
+pub mod SetNames

@@ -17,7 +17,7 @@ use Rattle.pv_fault.specs.declared.Outcome.TheVariants.{Good, Bad}
 use Rattle.pv_fault.specs.Grades.{least_of}
 use Rattle.pv_fault.specs.Counts.{last_count, present, stopped_sum, sum_of, sum_of_two}
 use Rattle.pv_fault.proofs.Sums.{least_more, sum_of_more}
-use Rattle.pv_fields.specs.FieldList.{Answered, Extra, Given, Defaulted, Missing, Absent, Kept, Forbidden, all_errors, all_outcomes, answer_outcome, extra_errors, extra_outcome, extra_value, field_errors, field_value, fields_of, given_names, grade_in, count_in, name_if_given, named_value, unless_errors, value_of}
+use Rattle.pv_fields.specs.FieldList.{Answered, Extra, Given, Defaulted, Missing, Absent, Kept, Forbidden, all_errors, all_outcomes, answer_outcome, extra_errors, extra_outcome, extra_value, field_errors, field_value, fields_of, given_names, grade_in, count_in, name_if_given, name_under, named_value, unless_errors, value_of}
 use Rattle.pv_fields.specs.Kept.{KeptParts, default_kept, extra_kept, finished, found_under, given_kept, good_of, grade_with, count_with, kept_of, nothing_kept}
 
 -- errors
@@ -103,7 +103,7 @@ module _ (fs : List Answered) (f : FieldRule) where
   given_more path o =
       let a = given_as path o in
       same_kept _ _ _ _ _ _ _ _ _ _ (values_more a ∙ ap (λ vs. flat_map field_value fs ++ vs) (one_value f.name o))
-      (flat_map-append (λ x. name_if_given x.field.name x.answer) fs (a ∷ [])) refl
+      (flat_map-append (λ x. name_if_given x.field.name x.answer) fs (a ∷ []) ∙ ap (λ ns. given_names fs ++ ns) (append-nil (name_under f.name (good_of o)))) refl
       (ap grade_of (field_outcome_more fs a) ∙ grade_one (all_outcomes fs []) o) (ap count_of (field_outcome_more fs a) ∙ count_one (all_outcomes fs []) o)
 
   -- that has a default
