@@ -1,7 +1,7 @@
 -- Where words are refused.
 use Rattle.std.proofs.Common.{◌≡◌, ℕ, zero, suc, ◌+◌, ◌-◌, ◌≤◌, List, [], ◌∷◌, ◌++◌, length, take, refl, ap, ◌∙◌, sym, arith}
 use Rattle.std.specs.Prelude.{Option, Some, None, Ok, Err}
-use Rattle.pv_command.specs.Operands.{Command}
+use Rattle.pv_command.specs.declared.asked.Command.{Command}
 use Rattle.pv_command.specs.Command.{State, a_name, step, finished, Asked, at_end, onward, asked_from, command}
 use Rattle.pv_command.proofs.Completions.{complete}
 
