@@ -12,7 +12,7 @@ use Rattle.pv_command.specs.Options.{is_option, Effect, flag, with_pick, effect_
 use Rattle.pv_command.specs.declared.asked.Command.{Command}
 use Rattle.pv_command.specs.declared.asked.Command.TheVariants.{Validate, Dump, Lines, Check, JsonSchema, Workload}
 use Rattle.pv_command.specs.Operands.{Operands, whole, a_file, a_file_beside, a_seed, a_count, behind, completed, number_by, is_input}
-use Rattle.pv_command.specs.Command.{Form, validate_form, CommandRow, built, commands, form_named, State, a_name, options_from, a_pick, operands_from, step, finished, behind_operand, behind_option, behind_pick, Asked, at_end, onward, asked_from}
+use Rattle.pv_command.specs.Command.{Form, validate_form, CommandRow, built, commands, form_named, State, a_name, options_from, a_pick, operands_from, step, finished, behind_operand, behind_option, behind_pick, Parsed, at_end, onward, asked_from}
 
 -- ---- what an answer comes from
 
@@ -24,7 +24,7 @@ pub completes : (place : ℕ) (o : Option Command) (c : Command) → at_end plac
 completes place None c e = cc
 completes place (Some d) c e = cc
 
-pub moves_on : (place : ℕ) (next : State → Asked) (o : Option State) (c : Command) → onward place next o ≡ Ok c → (t : State) × (o ≡ Some t) × (next t ≡ Ok c)
+pub moves_on : (place : ℕ) (next : State → Parsed) (o : Option State) (c : Command) → onward place next o ≡ Ok c → (t : State) × (o ≡ Some t) × (next t ≡ Ok c)
 moves_on place next None c e = cc
 moves_on place next (Some t) c e = (t, refl, e)
 

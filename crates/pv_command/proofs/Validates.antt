@@ -7,7 +7,7 @@ use Rattle.pv_command.specs.Options.{no_options, is_option, Effect, flag, row, s
 use Rattle.pv_command.specs.declared.asked.Command.{Command}
 use Rattle.pv_command.specs.declared.asked.Command.TheVariants.{Validate}
 use Rattle.pv_command.specs.Operands.{whole, behind, schema_and_document, is_input}
-use Rattle.pv_command.specs.Command.{Form, validate_form, form_named, State, options_from, operands_from, step, behind_name, behind_option, behind_operand, Asked, onward, asked_from, command}
+use Rattle.pv_command.specs.Command.{Form, validate_form, form_named, State, options_from, operands_from, step, behind_name, behind_option, behind_operand, Parsed, onward, asked_from, command}
 use Rattle.pv_command.specs.Validating.{said, IsValidate}
 use Rattle.pv_command.proofs.Others.{leads_other, named}
 
@@ -83,7 +83,7 @@ files told strict place (x ∷ y ∷ more) schema document e =
     )
 
 -- the first of two ways, or the second
-either : (b : Bool) (place : ℕ) (next : State → Asked) (x y : Option State) (c : Command) → onward place next (cond b x y) ≡ Ok c
+either : (b : Bool) (place : ℕ) (next : State → Parsed) (x y : Option State) (c : Command) → onward place next (cond b x y) ≡ Ok c
     → ((b ≡ true) × (onward place next x ≡ Ok c)) ⊎ ((b ≡ false) × (onward place next y ≡ Ok c))
 either true place next x y c e = inl (refl, e)
 either false place next x y c e = inr (refl, e)
@@ -131,14 +131,14 @@ behind_first b strict place (x ∷ more) schema document e = elim (at_option (st
   | inr w ↦ operands_only (Some b) strict place x more schema document w.0 w.1
 ]
 
-first_at : (p q : Bool) (place : ℕ) (next : State → Asked) (n m : List ℕ) (c : Command)
+first_at : (p q : Bool) (place : ℕ) (next : State → Parsed) (n m : List ℕ) (c : Command)
     → onward place next (behind_option validate_form (effect_by no_options (cond p (Some (row n (λ o. is_some o.strict) (λ o. flag (record o { strict = Some true })))) (cond q (Some (row m (λ o. is_some o.strict) (λ o. flag (record o { strict = Some false })))) None)))) ≡ Ok c
     → ((p ≡ true) × (next (options_behind (strictly true)) ≡ Ok c)) ⊎ ((q ≡ true) × (next (options_behind (strictly false)) ≡ Ok c))
 first_at true q place next n m c e = inl (refl, e)
 first_at false true place next n m c e = inr (refl, e)
 first_at false false place next n m c e = cc
 
-first : (x : List ℕ) (place : ℕ) (next : State → Asked) (c : Command) → onward place next (behind_option validate_form (effect_of strictness no_options x)) ≡ Ok c
+first : (x : List ℕ) (place : ℕ) (next : State → Parsed) (c : Command) → onward place next (behind_option validate_form (effect_of strictness no_options x)) ≡ Ok c
     → ((x ≡ codes "--strict") × (next (options_behind (strictly true)) ≡ Ok c)) ⊎ ((x ≡ codes "--lax") × (next (options_behind (strictly false)) ≡ Ok c))
 unfolding effect_of
 first x place next c e = elim (first_at (bytes_eq x (codes "--strict")) (bytes_eq x (codes "--lax")) place next (codes "--strict") (codes "--lax") c e) [

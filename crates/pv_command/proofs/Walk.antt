@@ -12,7 +12,7 @@ use Rattle.pv_command.specs.declared.table.Operand.{Operand}
 use Rattle.pv_command.specs.declared.table.Operand.TheVariants.{File, OtherFile}
 use Rattle.pv_command.specs.Options.{Effect, flag, Row, row, is_option, effect_by, effect_of}
 use Rattle.pv_command.specs.Operands.{whole, behind, is_input}
-use Rattle.pv_command.specs.Command.{Form, CommandRow, State, options_from, operands_from, step, Asked, onward, behind_operand, asked_from}
+use Rattle.pv_command.specs.Command.{Form, CommandRow, State, options_from, operands_from, step, Parsed, onward, behind_operand, asked_from}
 use Rattle.pv_command.specs.Entries.{AddsOption, bars, with_setting, rows_of, word_at, operands_by, fits, setting_named, IsEntry, AreEntries, IsFound}
 
 abbrev Words : Type 0
@@ -133,7 +133,7 @@ behind_kind File kinds before word make = refl
 behind_kind OtherFile kinds before word make = unless (is_input (word_at 0 before) && is_input word) (operands_by kinds (before ++ word ∷ []) make)
 
 -- the operands from a place on, and what is made of them and of those before
-abbrev Stand : List Operand → ℕ → ℕ → Words → (Words → Command) → Asked
+abbrev Stand : List Operand → ℕ → ℕ → Words → (Words → Command) → Parsed
 Stand kinds at place words make = asked_from (operands_from (operands_by (drop at kinds) (take at words) make)) (place + at) (drop at words)
 
 kind_opened : (kinds : List Operand) (at place : ℕ) (words : Words) (make : Words → Command) (kind : Operand) (word : List ℕ) → at < length words → word ≡ get_or words at word

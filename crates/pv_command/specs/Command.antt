@@ -5,6 +5,8 @@ use Rattle.std.specs.Option.{option_map}
 use Rattle.pv_tree.specs.declared.Tree.{Tree}
 use Rattle.pv_pick.specs.Picks.{pick_of}
 use Rattle.pv_command.specs.declared.options.Options.{Options}
+use Rattle.pv_command.specs.declared.asked.Asked.{Asked}
+use Rattle.pv_command.specs.declared.asked.Asked.TheVariants.{Run, Refused, NotBuilt}
 use Rattle.pv_command.specs.declared.asked.Command.{Command}
 use Rattle.pv_command.specs.declared.asked.Command.TheVariants.{Validate, Dump, Lines, Check, JsonSchema, Workload}
 use Rattle.pv_command.specs.Options.{Effect, flag, with_pick, Row, is_option, no_options, strictness, serialisation, effect_of}
@@ -122,24 +124,45 @@ finished (a_pick f next) = None
 finished (operands_from operands) = completed operands
 
 -- a command, or the place of the first word that cannot stand there or is missing
-abbrev pub Asked : Type 0
-Asked = Result Command ℕ
+abbrev pub Parsed : Type 0
+Parsed = Result Command ℕ
 
 -- behind the last word, of which this is the next place
-abbrev pub at_end : ℕ → Option Command → Asked
+abbrev pub at_end : ℕ → Option Command → Parsed
 at_end place None = Err place
 at_end place (Some c) = Ok c
 
 -- at a word, by what may follow it
-abbrev pub onward : ℕ → (State → Asked) → Option State → Asked
+abbrev pub onward : ℕ → (State → Parsed) → Option State → Parsed
 onward place next None = Err place
 onward place next (Some s) = next s
 
 -- what the words from this place on ask for
-unfoldable pub asked_from : State → ℕ → List (List ℕ) → Asked
+unfoldable pub asked_from : State → ℕ → List (List ℕ) → Parsed
 asked_from s place [] = at_end place (finished s)
 asked_from s place (word ∷ words) = onward place (λ t. asked_from t (place + 1) words) (step s word)
 
 -- of all words
-unfoldable pub command : List (List ℕ) → Asked
+unfoldable pub command : List (List ℕ) → Parsed
 command words = asked_from a_name 1 words
+
+-- by whether the first word is a command that is not built, and by what all words say
+abbrev pub asked_by : Bool → Parsed → Asked
+asked_by true words = NotBuilt
+asked_by false (Err at) = Refused at
+asked_by false (Ok c) = Run c
+
+-- what the words ask for
+unfoldable pub asked : List (List ℕ) → Asked
+asked words = asked_by (begins_unbuilt words) (command words)
+
+-- a command that is run is one that the program has so far
+abbrev pub IsServed : Asked → Type 0
+IsServed (Run (Validate strict schema document)) = Unit {0}
+IsServed (Run (Dump options schema document)) = ⊥
+IsServed (Run (Lines strict schema document)) = ⊥
+IsServed (Run (Check schema)) = ⊥
+IsServed (Run (JsonSchema schema)) = ⊥
+IsServed (Run (Workload seed count)) = ⊥
+IsServed (Refused at) = Unit {0}
+IsServed NotBuilt = Unit {0}

@@ -3,8 +3,11 @@ use Rattle.std.specs.Prelude.{◌≡◌, ℕ, ◌+◌, Bool, false, true, not, �
 use Rattle.pv_command.specs.Options.{Effect, flag, Row, row, strictness}
 use Rattle.pv_command.specs.Operands.{Operands, whole, a_file, a_file_beside, is_input}
 use Rattle.pv_command.specs.Command as spec
-use Rattle.pv_command.specs.Command.{Asked, Form, form, CommandRow, options_from, operands_from, asked_from}
+use Rattle.pv_command.specs.Command.{Parsed, Form, form, CommandRow, options_from, operands_from, asked_from}
+use Rattle.pv_text.specs.declared.Memory.{Memory}
 use Rattle.pv_command.specs.declared.options.Options.{Options}
+use Rattle.pv_command.specs.declared.asked.Asked.{Asked}
+use Rattle.pv_command.specs.declared.asked.Asked.TheVariants.{Run, Refused, NotBuilt}
 use Rattle.pv_command.specs.declared.options.Setting.{Setting}
 use Rattle.pv_command.specs.declared.options.Setting.TheVariants.{Strict}
 use Rattle.pv_command.specs.declared.asked.Command.{Command}
@@ -20,8 +23,6 @@ use Rattle.pv_command.specs.declared.table.Made.{Made}
 use Rattle.pv_command.specs.declared.table.Made.TheVariants.{Validate}
 use Rattle.pv_command.specs.declared.table.Takes.{Takes}
 use Rattle.pv_command.specs.declared.table.CommandEntry.{CommandEntry}
-use Rattle.pv_command.specs.declared.fault.WordsFault.{WordsFault}
-use Rattle.pv_command.specs.declared.fault.WordsFault.TheVariants as fault
 
 -- ---- the table
 
@@ -126,16 +127,9 @@ ReadsOperands kinds words (Err n) =
     (make : List (List ℕ) → Command) (place : ℕ) →
     asked_from (operands_from (operands_by kinds [] make)) place words ≡ Err (place + n)
 
--- a command, or the place of a refusal, is the one of the definition; want of memory says nothing
-abbrev pub Tells : Result Command WordsFault → Asked → Type 0
-Tells (Ok c) asked = asked ≡ Ok c
-Tells (Err (fault.Refused at)) asked = asked ≡ Err at
-Tells (Err fault.NotBuilt) asked = ⊥
-Tells (Err fault.Memory) asked = Unit {0}
-
 -- the answer is that the command is not built
-abbrev pub is_not_built : Result Command WordsFault → Bool
-is_not_built (Ok c) = false
-is_not_built (Err (fault.Refused at)) = false
-is_not_built (Err fault.NotBuilt) = true
-is_not_built (Err fault.Memory) = false
+abbrev pub is_not_built : Result Asked Memory → Bool
+is_not_built (Ok (Run c)) = false
+is_not_built (Ok (Refused at)) = false
+is_not_built (Ok NotBuilt) = true
+is_not_built (Err e) = false

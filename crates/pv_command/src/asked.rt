@@ -32,3 +32,13 @@ pub enum Command {
         count: u64,
     },
 }
+
+/// What the words ask for.
+#[derive(Drop)]
+pub enum Asked {
+    Run(Command),
+    /// The place, from 1, of the first word that cannot stand there, or of the first that is missing.
+    Refused { at: u64 },
+    /// The first word is a command that is not built yet. The words behind it are not looked at.
+    NotBuilt,
+}

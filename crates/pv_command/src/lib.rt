@@ -2,15 +2,13 @@
 #![tactic(auto)]
 
 mod asked;
-mod fault;
 mod laws;
 mod options;
 mod reading;
 mod table;
 mod words;
 
-pub use asked::Command;
-pub use fault::WordsFault;
+pub use asked::{Asked, Command};
 pub use laws::{
     options_may_change_places, refusals_have_places,
     refusals_name_the_first_word_that_cannot_stand, validate_is_written_so,

@@ -1,17 +1,16 @@
 //! What the words ask for, by the table of commands.
 
-ghost use Rattle.std.specs.Prelude.{◌≡◌, ◌+◌, ◌<◌, ◌≤◌, ◌^◌, ◌↔◌, ℕ, IfErr, IfOk, IsTrue, Ok, Err, bytes_eq, length};
+ghost use Rattle.std.specs.Prelude.{◌≡◌, ◌+◌, ◌<◌, ◌≤◌, ◌^◌, ◌↔◌, ℕ, IfErr, IfOk, IsTrue, Ok, false, bytes_eq, length};
 ghost use Rattle.std.specs.List.{find};
 ghost use Rattle.std.specs.Option.{option_copied};
 ghost use Rattle.pv_command.specs.Command as spec;
-ghost use Rattle.pv_command.specs.Command.{asked_from, begins_unbuilt, operands_from, options_from};
+ghost use Rattle.pv_command.specs.Command.{IsServed, asked_by, asked_from, begins_unbuilt, operands_from, options_from};
 ghost use Rattle.pv_command.specs.Entries as entry;
-ghost use Rattle.pv_command.specs.Entries.{AddsOption, IsFound, ReadsOperands, ReadsOptions, Tells, form_of, is_not_built};
+ghost use Rattle.pv_command.specs.Entries.{AddsOption, IsFound, ReadsOperands, ReadsOptions, form_of, is_not_built};
 ghost use Rattle.pv_command.specs.Operands as operand;
 ghost use Rattle.pv_command.specs.Options as option;
 
-use crate::asked::Command;
-use crate::fault::WordsFault;
+use crate::asked::{Asked, Command};
 use crate::options::{Options, Setting};
 use crate::table::{CommandEntry, Made, Operand, OptionEntry, Takes, commands};
 use crate::words::Words;
@@ -142,34 +141,37 @@ fn make(alloc: Global, made: Made, options: &Options, operands: &[Text]) -> Resu
     }
 }
 
-/// The command of these options and of the operands, of which the first stands at a place.
+/// What these options and the operands ask for, of which the first stands at a place.
 fn read_made(
     alloc: Global,
     takes: &Takes,
     options: &Options,
     place: u64,
     operands: &[Text],
-) -> Result<Command, WordsFault>
+) -> Result<Asked, Memory>
     requires { place + length operands.now < 2 ^ 64 }
-    ensures { Tells result
-        (asked_from (operands_from ((form_of takes.now).operands options.now)) place operands.now) }
+    ensures served { IfOk result (λ a. IsServed a) }
+    ensures asked { IfOk result (λ a. a ≡ asked_by false
+        (asked_from (operands_from ((form_of takes.now).operands options.now)) place operands.now)) }
 {
     match read_operands(takes.operands.kinds(), operands) {
-        Ok(()) => Ok(make(alloc, takes.made, options, operands)?),
-        Err(count) => Err(WordsFault::Refused {
+        Ok(()) => Ok(Asked::Run(make(alloc, takes.made, options, operands)?)),
+        Err(count) => Ok(Asked::Refused {
             at: place + count as u64,
         }),
     }
 }
 
-/// The command that the words behind its name ask for.
-fn read_behind(alloc: Global, takes: &Takes, words: &[Text]) -> Result<Command, WordsFault>
-    ensures { Tells result (asked_from (options_from (form_of takes.now) option.no_options) 2 words.now) }
+/// What the words behind a command's name ask for.
+fn read_behind(alloc: Global, takes: &Takes, words: &[Text]) -> Result<Asked, Memory>
+    ensures served { IfOk result (λ a. IsServed a) }
+    ensures asked { IfOk result (λ a. a ≡ asked_by false
+        (asked_from (options_from (form_of takes.now) option.no_options) 2 words.now)) }
 {
     let mut options = Options::none();
     match read_options(&mut options, takes, words) {
         Ok(count) => read_made(alloc, takes, &options, 2 + count as u64, &words[count..]),
-        Err(count) => Err(WordsFault::Refused {
+        Err(count) => Ok(Asked::Refused {
             at: 2 + count as u64,
         }),
     }
@@ -194,23 +196,22 @@ fn command_named(name: &str) -> Option<&'static CommandEntry>
     entry_named(commands(), name)
 }
 
-/// The command that the words ask for.
-#[tactic(auto, unfolding(crate::specs::Command::command, crate::specs::Command::asked_from, crate::specs::Command::step))]
-pub fn command(words: &Words) -> Result<Command, WordsFault>
-    ensures command { IfOk result (λ c. spec.command words.now ≡ Ok c) }
-    ensures refused { (at : ℕ) → result ≡ Err (WordsFault.Refused at) →
-        spec.command words.now ≡ Err at }
-    ensures not_built { (result ≡ Err WordsFault.NotBuilt) ↔ IsTrue (begins_unbuilt words.now) }
+/// What the words ask for.
+#[tactic(auto, unfolding(crate::specs::Command::asked, crate::specs::Command::command, crate::specs::Command::asked_from, crate::specs::Command::step))]
+pub fn command(words: &Words) -> Result<Asked, Memory>
+    ensures asked { IfOk result (λ a. a ≡ spec.asked words.now) }
+    ensures served { IfOk result (λ a. IsServed a) }
+    ensures not_built { (result ≡ Ok Asked.NotBuilt) ↔ IsTrue (begins_unbuilt words.now) }
     ensures tested { is_not_built result ≡ begins_unbuilt words.now }
 {
     match words.as_slice() {
-        [] => Err(WordsFault::Refused { at: 1 }),
+        [] => Ok(Asked::Refused { at: 1 }),
         [name, more @ ..] => match command_named(name.as_str()) {
             Some(entry) => match &entry.takes {
                 Some(takes) => read_behind(words.alloc(), takes, more),
-                None => Err(WordsFault::NotBuilt),
+                None => Ok(Asked::NotBuilt),
             },
-            None => Err(WordsFault::Refused { at: 1 }),
+            None => Ok(Asked::Refused { at: 1 }),
         },
     }
 }
