@@ -1,3 +1,3 @@
 pub mod Replies
 pub mod Shapes
-pub mod Asks
+pub mod NoMemory

@@ -1,68 +1,82 @@
 -- The answer to words and files, which the first of the steps decides that refuses: the words, the
--- schema file, its JSON, its shape, its number of nodes, its patterns, the document file, and what
+-- schema file, its JSON, its shape, its number of nodes, its building, the document file, and what
 -- the schema means for it.
-use Rattle.std.specs.Prelude.{ℕ, Bool, nat_le, if◌then◌else◌, List, length, Option, Some, None, Result, Ok, Err, codes}
+use Rattle.std.specs.Prelude.{ℕ, Bool, nat_le, if◌then◌else◌, List, length, Option, Some, None, Result, Ok, Err}
 use Rattle.pv_edge.specs.Files.{file}
-use Rattle.pv_json_grammar.specs.Documents.{Document, whole, bad, ends_early, reading}
-use Rattle.pv_tree.specs.declared.Step.{Step}
+use Rattle.pv_json_grammar.specs.Documents.{reading}
 use Rattle.pv_node.specs.declared.Node.{Node}
-use Rattle.pv_schema.specs.declared.SchemaFault.{SchemaFault}
-use Rattle.pv_schema.specs.declared.SchemaFault.TheVariants as fault
-use Rattle.pv_schema.specs.Reading.{schema_of}
-use Rattle.pv_plan.specs.BadPatterns.{bad_pattern}
-use Rattle.pv_cli.specs.Asking.{Asked, unbuilt, misplaced, validated, asked}
-use Rattle.pv_cli.specs.Faults.{schema_bad_text, schema_end_text}
-use Rattle.pv_cli.specs.Lines.{read_failed, too_large, schema_refused, words_refused, code_text, placed_text, too_many_text}
+use Rattle.pv_command.specs.declared.Asked.{Asked}
+use Rattle.pv_command.specs.declared.Asked.TheVariants.{Run, Refused, NotBuilt}
+use Rattle.pv_command.specs.declared.Command.{Command}
+use Rattle.pv_command.specs.declared.Command.TheVariants.{Validate, Dump, Lines, Check, JsonSchema, Workload}
+use Rattle.pv_command.specs.Command.{asked}
+use Rattle.pv_cli.specs.Asking.{file_limit}
+use Rattle.pv_cli.specs.SchemaFiles.{SchemaFile, served, refused_for, not_yet, schema_file, refusal_text}
+use Rattle.pv_cli.specs.Lines.{read_failed, too_large, schema_refused, words_refused}
 use Rattle.pv_cli.specs.Documents.{refused, not_built, of_document}
 use Rattle.pv_cli.specs.declared.answer.Answer.{Answer}
 use Rattle.pv_cli.specs.declared.status.Status.TheVariants as status
 
--- how many bytes a file may have
-abbrev pub limit : ℕ
-limit = 4194304
+-- the files that a command reads, one after the other, until the answer is known
+pub data Reads : Type 0 where
+  answered : Answer → Reads
+  -- a file of this name and of at most so many bytes, and what its content leads to
+  a_file : (name : List ℕ) (limit : ℕ) → (List ℕ → Reads) → Reads
 
--- a file of this name, and what its content leads to
-abbrev pub of_file : List ℕ → (List ℕ → Answer) → Option (List ℕ) → Answer
-of_file name next None = refused (read_failed name) status.ReadFault
-of_file name next (Some bytes) =
+-- ---- the answer to what is read
+
+-- the answer to the content of a file, by the answer to each content
+abbrev pub of_content : List ℕ → ℕ → (List ℕ → Answer) → Option (List ℕ) → Answer
+of_content name limit next None = refused (read_failed name) status.ReadFault
+of_content name limit next (Some bytes) =
     if nat_le (length bytes) limit then next bytes else refused (too_large name) status.TooLarge
 
--- a schema and its first bad pattern, and what the schema leads to
-abbrev pub of_built : (Node → Answer) → Node → Option (List Step) → Answer
-of_built next schema None = next schema
-of_built next schema (Some path) =
-    refused (schema_refused (placed_text (codes "bad pattern") path)) status.SchemaRefused
+-- the answer where these files are held
+abbrev pub answer_of : List (List ℕ × List ℕ) → Reads → Answer
+answer_of held (answered a) = a
+answer_of held (a_file name limit next) =
+    of_content name limit (λ bytes. answer_of held (next bytes)) (file held name)
 
--- Reading gives no want of memory as a refusal.
-abbrev pub of_shape : (Node → Answer) → Result Node SchemaFault → Answer
-of_shape next (Ok schema) = of_built next schema (bad_pattern schema)
-of_shape next (Err (fault.Shape path code)) =
-    refused (schema_refused (placed_text (code_text code) path)) status.SchemaRefused
-of_shape next (Err (fault.NotYet path)) = not_built
-of_shape next (Err (fault.TooManyNodes count)) =
-    refused (schema_refused too_many_text) status.SchemaRefused
-of_shape next (Err fault.Memory) = not_built
+-- ---- what each command reads
 
--- what a schema file is as a document
-abbrev pub of_schema : (Node → Answer) → Document → Answer
-of_schema next (whole t) = of_shape next (schema_of t)
-of_schema next (bad at) = refused (schema_refused (schema_bad_text at)) status.SchemaRefused
-of_schema next ends_early = refused (schema_refused schema_end_text) status.SchemaRefused
+-- the schema of a schema file, or the answer to it
+abbrev pub schema_or_answer : SchemaFile → Result Node Answer
+schema_or_answer (served schema) = Ok schema
+schema_or_answer (refused_for r) =
+    Err (refused (schema_refused (refusal_text r)) status.SchemaRefused)
+schema_or_answer not_yet = Err not_built
 
--- a schema file and a document file
-abbrev pub of_files : Option Bool → List (List ℕ × List ℕ) → List ℕ → List ℕ → Answer
-of_files strict held schema_name name =
-    of_file schema_name
-    (λ bytes. of_schema (λ schema. of_file name (of_document strict schema) (file held name))
-    (reading 128 bytes))
-    (file held schema_name)
+-- what a schema leads to, or the answer
+abbrev pub of_schema : (Node → Reads) → Result Node Answer → Reads
+of_schema next (Ok schema) = next schema
+of_schema next (Err a) = answered a
 
--- what the words ask for
-abbrev pub of_asked : List (List ℕ × List ℕ) → Asked → Answer
-of_asked held unbuilt = not_built
-of_asked held (misplaced at) = refused (words_refused at) status.WordsRefused
-of_asked held (validated strict schema document) = of_files strict held schema document
+-- a schema file, and what its schema leads to
+abbrev pub reads_schema : List ℕ → (Node → Reads) → Reads
+reads_schema name next =
+    a_file name file_limit
+    (λ bytes. of_schema next (schema_or_answer (schema_file (reading 128 bytes))))
+
+-- a document file under a schema
+abbrev pub reads_document : Option Bool → List ℕ → Node → Reads
+reads_document strict name schema =
+    a_file name file_limit (λ bytes. answered (of_document strict schema bytes))
+
+-- what each command reads
+abbrev pub reads_of : Command → Reads
+reads_of (Validate strict schema document) = reads_schema schema (reads_document strict document)
+reads_of (Dump options schema document) = answered not_built
+reads_of (Lines strict schema document) = answered not_built
+reads_of (Check schema) = answered not_built
+reads_of (JsonSchema schema) = answered not_built
+reads_of (Workload seed count) = answered not_built
+
+-- what is read by what the words ask for
+abbrev pub reads_for : Asked → Reads
+reads_for (Run c) = reads_of c
+reads_for (Refused at) = answered (refused (words_refused at) status.WordsRefused)
+reads_for NotBuilt = answered not_built
 
 -- the answer to the words
 unfoldable pub answer : List (List ℕ) → List (List ℕ × List ℕ) → Answer
-answer words held = of_asked held (asked words)
+answer words held = answer_of held (reads_for (asked words))

@@ -1,7 +1,8 @@
 pub mod Codes
 pub mod Asking
-pub mod Lines
 pub mod Faults
+pub mod SchemaFiles
+pub mod Lines
 pub mod Documents
 pub mod Answering
 pub mod Running

@@ -1,11 +1,9 @@
 -- The lines on standard error, each with its line feed.
-use Rattle.std.specs.Prelude.{◌≡◌, ℕ, ◌⊎◌, List, [], ◌∷◌, ◌++◌, codes, Option, Some, None}
-use Rattle.std.specs.Prelude.{decimal}
-use Rattle.pv_tree.specs.declared.Step.{Step}
-use Rattle.pv_notation.specs.Locations.{loc_text}
+use Rattle.std.specs.Prelude.{◌≡◌, ℕ, ◌⊎◌, Bool, true, false, List, [], ◌∷◌, ◌++◌, codes, decimal, Option, Some, None}
 use Rattle.pv_notation.specs.Strings.{quoted}
-use Rattle.pv_schema.specs.declared.ShapeCode.{ShapeCode}
-use Rattle.pv_schema.specs.declared.ShapeCode.TheVariants.{NotObject, MissingKey, UnknownType, UnknownKey, BadValue}
+use Rattle.pv_command.specs.declared.Asked.{Asked}
+use Rattle.pv_cli.specs.Asking.{asks_dump, files_of, place_of}
+use Rattle.pv_cli.specs.SchemaFiles.{SchemaRefusal, refusal_text}
 use Rattle.pv_cli.specs.declared.status.Status.{Status}
 use Rattle.pv_cli.specs.declared.status.Status.TheVariants.{Valid, Invalid, WordsRefused, SchemaRefused, ReadFault, TooLarge, WriteFault, Memory, DumpRefused, NotYet}
 
@@ -29,43 +27,42 @@ too_large name = line (codes "too large: " ++ quoted name)
 abbrev pub schema_refused : List ℕ → List ℕ
 schema_refused reason = line (codes "schema refused: " ++ reason)
 
+-- the value is not serialised for this reason
+abbrev pub dump_refused : List ℕ → List ℕ
+dump_refused reason = line (codes "serialisation refused: " ++ reason)
+
 -- the word at this place, from 1, cannot stand there
 abbrev pub words_refused : ℕ → List ℕ
 words_refused at = line (codes "words refused at " ++ decimal at)
 
--- what is wrong with the shape of a schema
-abbrev pub code_text : ShapeCode → List ℕ
-code_text NotObject = codes "not_object"
-code_text MissingKey = codes "missing_key"
-code_text UnknownType = codes "unknown_type"
-code_text UnknownKey = codes "unknown_key"
-code_text BadValue = codes "bad_value"
+-- a line about the word at a place, where there is one
+abbrev pub IsOfPlace : Option ℕ → List ℕ → Type 0
+IsOfPlace None text = ⊥
+IsOfPlace (Some at) text = text ≡ words_refused at
 
--- what is wrong with a schema, and where
-abbrev pub placed_text : List ℕ → List Step → List ℕ
-placed_text what path = what ++ (codes " at " ++ loc_text path)
+-- a line about one of the files of these names
+abbrev pub IsOfFile : (List ℕ → List ℕ) → List (List ℕ) → List ℕ → Type 0
+IsOfFile of [] text = ⊥
+IsOfFile of (name ∷ names) text = (text ≡ of name) ⊎ IsOfFile of names text
 
--- a schema has too many nodes
-abbrev pub too_many_text : List ℕ
-too_many_text = codes "more than 100000 nodes"
+-- a line about a value that is not serialised, where `dump` is asked for
+abbrev pub IsOfDump : Bool → List ℕ → Type 0
+IsOfDump true text = (reason : List ℕ) × (text ≡ dump_refused reason)
+IsOfDump false text = ⊥
 
--- a line about one of the two files that the command names
-abbrev pub IsOfFile : (List ℕ → List ℕ) → Option (List ℕ × List ℕ) → List ℕ → Type 0
-IsOfFile of None text = ⊥
-IsOfFile of (Some names) text = (text ≡ of names.0) ⊎ (text ≡ of names.1)
-
--- what stands there with each status, by the names of the command
-abbrev pub IsLineOf : Option (List ℕ × List ℕ) → Status → List ℕ → Type 0
-IsLineOf names Valid text = text ≡ []
-IsLineOf names Invalid text = text ≡ []
-IsLineOf names WordsRefused text = (at : ℕ) × (text ≡ words_refused at)
-IsLineOf names SchemaRefused text = (reason : List ℕ) × (text ≡ schema_refused reason)
-IsLineOf names ReadFault text = IsOfFile read_failed names text
-IsLineOf names TooLarge text = IsOfFile too_large names text
-IsLineOf names WriteFault text = text ≡ line (codes "write failed")
-IsLineOf names Memory text = text ≡ line (codes "out of memory")
-IsLineOf names DumpRefused text = ⊥
-IsLineOf names NotYet text = text ≡ line (codes "not built yet")
+-- what stands there with each status, by what the words ask for
+abbrev pub IsLineOf : Asked → Status → List ℕ → Type 0
+IsLineOf asked Valid text = text ≡ []
+IsLineOf asked Invalid text = text ≡ []
+IsLineOf asked WordsRefused text = IsOfPlace (place_of asked) text
+IsLineOf asked SchemaRefused text =
+    (r : SchemaRefusal) × (text ≡ schema_refused (refusal_text r))
+IsLineOf asked ReadFault text = IsOfFile read_failed (files_of asked) text
+IsLineOf asked TooLarge text = IsOfFile too_large (files_of asked) text
+IsLineOf asked WriteFault text = text ≡ line (codes "write failed")
+IsLineOf asked Memory text = text ≡ line (codes "out of memory")
+IsLineOf asked DumpRefused text = IsOfDump (asks_dump asked) text
+IsLineOf asked NotYet text = text ≡ line (codes "not built yet")
 
 -- what an answer prints on standard output with each status; an answer has none of the other
 -- statuses
@@ -78,5 +75,5 @@ IsOutOf ReadFault text = text ≡ []
 IsOutOf TooLarge text = text ≡ []
 IsOutOf WriteFault text = ⊥
 IsOutOf Memory text = ⊥
-IsOutOf DumpRefused text = ⊥
+IsOutOf DumpRefused text = text ≡ []
 IsOutOf NotYet text = text ≡ []

@@ -2,8 +2,8 @@
 #![tactic(auto)]
 
 mod answer;
-mod asking;
 mod document;
+mod laws;
 mod lines;
 mod running;
 mod schema;
@@ -11,6 +11,7 @@ mod status;
 mod working;
 
 pub use answer::Answer;
+pub use laws::schemas_want_no_memory;
 pub use pv_command::Words;
 pub use running::run;
 pub use status::Status;

@@ -1,8 +1,8 @@
 //! The lines on standard error.
 
-ghost use Rattle.std.specs.Prelude.{◌≡◌, ◌++◌, IfOk, codes};
-ghost use Rattle.pv_cli.specs.Faults as text;
+ghost use Rattle.std.specs.Prelude.{◌≡◌, ◌++◌, IfOk};
 ghost use Rattle.pv_cli.specs.Lines as spec;
+ghost use Rattle.pv_cli.specs.SchemaFiles as schema;
 ghost use Rattle.pv_notation.specs.Strings.{quoted};
 
 use itoa::Buffer;
@@ -37,7 +37,7 @@ pub(crate) fn too_large(alloc: Global, name: &Text) -> Result<ByteBuf, Memory>
 
 /// The line for a schema file whose byte at the place `at` fits no JSON.
 pub(crate) fn schema_not_json(alloc: Global, at: u64) -> Result<ByteBuf, Memory>
-    ensures { IfOk result (λ b. b ≡ spec.schema_refused (text.schema_bad_text at)) }
+    ensures { IfOk result (λ b. b ≡ spec.schema_refused (schema.refusal_text (schema.not_json at))) }
 {
     let mut out = ByteBuf::new(alloc);
     let mut buffer = Buffer::new();
@@ -48,7 +48,7 @@ pub(crate) fn schema_not_json(alloc: Global, at: u64) -> Result<ByteBuf, Memory>
 }
 
 pub(crate) fn schema_ends_early(alloc: Global) -> Result<ByteBuf, Memory>
-    ensures { IfOk result (λ b. b ≡ spec.schema_refused text.schema_end_text) }
+    ensures { IfOk result (λ b. b ≡ spec.schema_refused (schema.refusal_text schema.ends_early)) }
 {
     let mut out = ByteBuf::new(alloc);
     out.push_slice(b"schema refused: JSON ends early\n")?;
@@ -56,7 +56,7 @@ pub(crate) fn schema_ends_early(alloc: Global) -> Result<ByteBuf, Memory>
 }
 
 fn code_text(code: ShapeCode) -> &'static str
-    ensures { result.now ≡ spec.code_text code }
+    ensures { result.now ≡ schema.code_text code }
 {
     match code {
         ShapeCode::NotObject => "not_object",
@@ -69,7 +69,7 @@ fn code_text(code: ShapeCode) -> &'static str
 
 /// The line for what is wrong at a place of a schema.
 fn schema_placed(alloc: Global, what: &str, path: &Loc) -> Result<ByteBuf, Memory>
-    ensures { IfOk result (λ b. b ≡ spec.schema_refused (spec.placed_text what.now path.now)) }
+    ensures { IfOk result (λ b. b ≡ spec.schema_refused (schema.placed_text what.now path.now)) }
 {
     let mut out = ByteBuf::new(alloc);
     out.push_slice(b"schema refused: ")?;
@@ -81,19 +81,19 @@ fn schema_placed(alloc: Global, what: &str, path: &Loc) -> Result<ByteBuf, Memor
 }
 
 pub(crate) fn bad_shape(alloc: Global, code: ShapeCode, path: &Loc) -> Result<ByteBuf, Memory>
-    ensures { IfOk result (λ b. b ≡ spec.schema_refused (spec.placed_text (spec.code_text code) path.now)) }
+    ensures { IfOk result (λ b. b ≡ spec.schema_refused (schema.refusal_text (schema.misshapen code path.now))) }
 {
     schema_placed(alloc, code_text(code), path)
 }
 
 pub(crate) fn bad_pattern(alloc: Global, path: &Loc) -> Result<ByteBuf, Memory>
-    ensures { IfOk result (λ b. b ≡ spec.schema_refused (spec.placed_text (codes "bad pattern") path.now)) }
+    ensures { IfOk result (λ b. b ≡ spec.schema_refused (schema.refusal_text (schema.not_built (schema.bad_pattern path.now)))) }
 {
     schema_placed(alloc, "bad pattern", path)
 }
 
 pub(crate) fn too_many_nodes(alloc: Global) -> Result<ByteBuf, Memory>
-    ensures { IfOk result (λ b. b ≡ spec.schema_refused spec.too_many_text) }
+    ensures { IfOk result (λ b. b ≡ spec.schema_refused (schema.refusal_text schema.too_many_nodes)) }
 {
     let mut out = ByteBuf::new(alloc);
     out.push_slice(b"schema refused: more than 100000 nodes\n")?;

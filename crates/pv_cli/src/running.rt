@@ -1,12 +1,13 @@
-ghost use Rattle.std.specs.Prelude.{◌≡◌, ◌+◌, ◌^◌, ◌-◌, ◌<◌, ◌≤◌, ◌⊎◌, ℕ, List, true, [], IsSome, IsOk, OnOk, OnErr};
+ghost use Rattle.std.specs.Prelude.{◌≡◌, ◌+◌, ◌^◌, ◌-◌, ◌<◌, ◌≤◌, ◌⊎◌, ℕ, List, true, [], length, IsSome, IsOk, OnOk, OnErr};
 ghost use Rattle.pv_edge.specs.Rising.{Rose};
 ghost use Rattle.std.specs.Io.KnownBytes.{Appends};
 ghost use Rattle.pv_edge.specs.Sending.{SentInPart};
-ghost use Rattle.pv_cli.specs.Answering as spec;
+ghost use Rattle.pv_command.specs.declared.Asked.TheVariants.{NotBuilt};
+ghost use Rattle.pv_command.specs.Command.{asked};
 ghost use Rattle.pv_cli.specs.Answering.{answer};
-ghost use Rattle.pv_cli.specs.Asking.{asked, files_of, place_of};
+ghost use Rattle.pv_cli.specs.Asking.{files_of, limit_of, place_of};
 ghost use Rattle.pv_cli.specs.Lines.{IsLineOf};
-ghost use Rattle.pv_cli.specs.Running.{IsTold, Puts, WhereTold, is_decided, is_printed, read_size};
+ghost use Rattle.pv_cli.specs.Running.{IsTold, Puts, StopsAt, WhereTold, is_decided, is_printed, is_silent, read_size};
 
 use crate::status::Status;
 use crate::working::work;
@@ -56,11 +57,14 @@ pub fn run<F: Shelf, O: Sink, E: Sink>(
         WhereTold (F.held shelf.old) (λ files.
         F.given shelf.new ≡ F.given shelf.old + read_size files (files_of (asked words.now))) }
 
-    // Words that are refused are refused before anything is read.
+    // Words that are refused are refused before anything is read, and so are commands that are not built.
     ensures words_refused { result ≡ Status.WordsRefused →
         IsSome (place_of (asked words.now)) × (F.given shelf.new ≡ F.given shelf.old) }
     ensures words_decide { IsSome (place_of (asked words.now)) →
         (result ≡ Status.WordsRefused) ⊎ (result ≡ Status.Memory) }
+    ensures unbuilt_decide { asked words.now ≡ NotBuilt →
+        (result ≡ Status.NotYet) ⊎ (result ≡ Status.Memory) }
+    ensures unread { files_of (asked words.now) ≡ [] → F.given shelf.new ≡ F.given shelf.old }
 
     // Why anything else comes.
     ensures read_cause { result ≡ Status.ReadFault →
@@ -68,21 +72,29 @@ pub fn run<F: Shelf, O: Sink, E: Sink>(
         ((answer words.now files).status ≡ result) ×
         Puts (E.took err.old) (E.took err.new) (E.faults err.old) (E.faults err.new)
         (answer words.now files).line) }
-    ensures read_output { result ≡ Status.ReadFault → Appends (O.took out.old) (O.took out.new) [] }
-    ensures large_cause { result ≡ Status.TooLarge → F.given shelf.old + spec.limit + 1 ≤ F.given shelf.new }
+    ensures large_cause { result ≡ Status.TooLarge →
+        F.given shelf.old + limit_of (asked words.now) + 1 ≤ F.given shelf.new }
     ensures write_cause { result ≡ Status.WriteFault → O.faults out.old < O.faults out.new }
+    ensures not_yet_cause { result ≡ Status.NotYet →
+        (asked words.now ≡ NotBuilt) ⊎ (0 < length (files_of (asked words.now))) }
+
+    // What standard output takes where nothing is printed, or not all.
+    ensures silent { is_silent (asked words.now) result ≡ true →
+        Appends (O.took out.old) (O.took out.new) [] }
     ensures write_part { result ≡ Status.WriteFault →
         WhereTold (F.held shelf.old) (λ files.
         SentInPart (O.took out.old) (O.took out.new) (answer words.now files).out) }
-    ensures memory_output { result ≡ Status.Memory → Appends (O.took out.old) (O.took out.new) [] }
 
     // Where no count of faults rises, it is the status that the words and the files decide, or want of memory.
     ensures complete { F.faults shelf.new ≡ F.faults shelf.old → O.faults out.new ≡ O.faults out.old →
         WhereTold (F.held shelf.old) (λ files.
         (result ≡ (answer words.now files).status) ⊎ (result ≡ Status.Memory)) }
 
-    // The line of each status.
-    ensures line { (text : List ℕ) × IsLineOf (files_of (asked words.now)) result text ×
+    // The line of each status. The line of a read fault names the file at which reading stopped.
+    ensures line { (text : List ℕ) × IsLineOf (asked words.now) result text ×
+        (result ≡ Status.ReadFault →
+        WhereTold (F.held shelf.old) (λ files.
+        StopsAt files (files_of (asked words.now)) (F.given shelf.old) (F.given shelf.new) text)) ×
         Puts (E.took err.old) (E.took err.new) (E.faults err.old) (E.faults err.new) text }
 
     // The shelf after any answer.

@@ -1,12 +1,13 @@
 //! From a schema file's bytes to its plan, or to the answer that refuses it.
 
-ghost use Rattle.std.specs.Prelude.{◌≡◌, IfOk, Result, Ok, Err, Some, None, codes};
+ghost use Rattle.std.specs.Prelude.{◌≡◌, IfOk};
 ghost use Rattle.pv_json_grammar.specs.Documents.{reading};
-ghost use Rattle.pv_node.specs.declared.Node.{Node};
 ghost use Rattle.pv_schema.specs.Reading.{schema_of};
-ghost use Rattle.pv_cli.specs.Steps.{DecidesBuilt, DecidesSchema, DecidesShape};
-ghost use Rattle.pv_cli.specs.Documents as spec;
-ghost use Rattle.pv_cli.specs.Lines as line;
+ghost use Rattle.pv_cli.specs.Answering.{schema_or_answer};
+ghost use Rattle.pv_cli.specs.SchemaFiles as spec;
+ghost use Rattle.pv_cli.specs.SchemaFiles.{builds};
+ghost use Rattle.pv_cli.specs.Documents as answer;
+ghost use Rattle.pv_cli.specs.Steps.{shown};
 
 use crate::answer::Answer;
 use crate::lines;
@@ -27,13 +28,14 @@ pub(crate) enum SchemaStep {
 }
 
 fn refused(line: ByteBuf, alloc: Global) -> SchemaStep
-    ensures { result ≡ SchemaStep.Answered (spec.refused line Status.SchemaRefused) }
+    ensures { result ≡ SchemaStep.Answered (answer.refused line Status.SchemaRefused) }
 {
     SchemaStep::Answered(Answer::refused(alloc, line, Status::SchemaRefused))
 }
 
 fn build_schema(alloc: Global, schema: &Schema) -> Result<SchemaStep, Memory>
-    ensures { IfOk result (DecidesBuilt schema.now) }
+    ensures { IfOk result (λ s. shown s ≡
+        schema_or_answer (spec.file_of_schema schema.now (builds schema.now))) }
 {
     match build(alloc, schema) {
         Ok(plan) => Ok(SchemaStep::Served(plan)),
@@ -46,7 +48,8 @@ fn build_schema(alloc: Global, schema: &Schema) -> Result<SchemaStep, Memory>
 }
 
 fn read_shape(alloc: Global, tree: &Tree) -> Result<SchemaStep, Memory>
-    ensures { IfOk result (DecidesShape (schema_of tree.now)) }
+    ensures { IfOk result (λ s. shown s ≡
+        schema_or_answer (spec.file_of_shape (schema_of tree.now))) }
 {
     match read_schema(alloc, tree) {
         Ok(schema) => build_schema(alloc, &schema),
@@ -64,7 +67,8 @@ fn read_shape(alloc: Global, tree: &Tree) -> Result<SchemaStep, Memory>
 }
 
 pub(crate) fn read_schema_file(alloc: Global, bytes: &[u8]) -> Result<SchemaStep, Memory>
-    ensures { IfOk result (DecidesSchema (reading 128 bytes.now)) }
+    ensures { IfOk result (λ s. shown s ≡
+        schema_or_answer (spec.schema_file (reading 128 bytes.now))) }
 {
     match read(alloc, bytes) {
         Ok(tree) => read_shape(alloc, &tree),

@@ -1,29 +1,29 @@
 //! From words and files to the whole answer, before anything is written.
 
-ghost use Rattle.std.specs.Prelude.{◌≡◌, ◌+◌, ◌^◌, ◌-◌, ◌<◌, ◌≤◌, ◌↔◌, ◌≢◌, ℕ, List, true, Some, IsSome, IfOk};
-ghost use Rattle.pv_edge.specs.Files.{file};
+ghost use Rattle.std.specs.Prelude.{◌≡◌, ◌+◌, ◌^◌, ◌<◌, ◌≤◌, ◌⊎◌, ◌↔◌, ◌≢◌, ℕ, List, [], ◌∷◌, length, true, IsSome, IfOk};
+ghost use Rattle.pv_command.specs.declared.Asked.{Asked};
+ghost use Rattle.pv_command.specs.declared.Asked.TheVariants.{NotBuilt, Run};
+ghost use Rattle.pv_command.specs.Command.{IsServed, asked};
 ghost use Rattle.pv_cli.specs.Answering as spec;
-ghost use Rattle.pv_cli.specs.Answering.{answer, of_file, of_files};
-ghost use Rattle.pv_cli.specs.Asking.{asked, files_of, place_of};
-ghost use Rattle.pv_cli.specs.Documents.{of_document};
+ghost use Rattle.pv_cli.specs.Answering.{answer, answer_of};
+ghost use Rattle.pv_cli.specs.Asking.{file_limit, files_in, files_of, limit_of, place_of};
 ghost use Rattle.pv_cli.specs.Lines.{IsLineOf, IsOutOf};
-ghost use Rattle.pv_cli.specs.Running.{Replies, WhereTold, is_printed, read_size, size_of};
+ghost use Rattle.pv_cli.specs.Running.{Replies, StopsAt, WhereTold, is_printed, read_size, size_of};
 ghost use Rattle.pv_cli.specs.Steps.{IsRefusal};
 
 use crate::answer::Answer;
-use crate::asking::{Asked, read_words};
 use crate::document::answer_document;
 use crate::lines;
 use crate::schema::{SchemaStep, read_schema_file};
 use crate::status::Status;
-use pv_command::Words;
+use pv_command::{Asked, Command, Words, command};
 use pv_edge::{LoadFault, Shelf, load};
 use pv_plan::Plan;
 use pv_text::{Memory, Text};
 use std::alloc::Global;
 
 /// How many bytes a file may have.
-pub const LIMIT: u64 = 4_194_304;
+const FILE_LIMIT: u64 = 4_194_304;
 
 /// The answer to a file that was not loaded.
 fn refuse_file(alloc: Global, name: &Text, fault: LoadFault) -> Result<Answer, Memory>
@@ -56,19 +56,24 @@ fn answer_file<F: Shelf>(
     ensures rises { F.given shelf.old ≤ F.given shelf.new }
 
     ensures reply { IfOk result (Replies (F.held shelf.old)
-        (λ files. of_file name.now (of_document strict plan.now) (file files name.now))
+        (λ files. answer_of files (spec.reads_document strict name.now plan.now))
         (F.faults shelf.old) (F.faults shelf.new)) }
-    ensures line { IfOk result (λ a. (first : List ℕ) → IsLineOf (Some (first, name.now)) a.status a.line) }
+    ensures line { IfOk result (λ a. (asked : Asked) (first : List ℕ) →
+        files_of asked ≡ first ∷ name.now ∷ [] → IsLineOf asked a.status a.line) }
     ensures out { IfOk result (λ a. IsOutOf a.status a.out) }
     ensures words { IfOk result (λ a. a.status ≢ Status.WordsRefused) }
     ensures large { IfOk result (λ a.
-        a.status ≡ Status.TooLarge → F.given shelf.new ≡ F.given shelf.old + spec.limit + 1) }
+        a.status ≡ Status.TooLarge → F.given shelf.new ≡ F.given shelf.old + file_limit + 1) }
+    ensures stops { IfOk result (λ a.
+        a.status ≡ Status.ReadFault →
+        WhereTold (F.held shelf.old) (λ files.
+        StopsAt files (name.now ∷ []) (F.given shelf.old) (F.given shelf.new) a.line)) }
     ensures whole { IfOk result (λ a.
         is_printed a.status ≡ true →
         WhereTold (F.held shelf.old) (λ files.
         F.given shelf.new ≡ F.given shelf.old + size_of files name.now)) }
 {
-    match load(alloc, shelf, name.as_str(), LIMIT) {
+    match load(alloc, shelf, name.as_str(), FILE_LIMIT) {
         Ok(bytes) => answer_document(alloc, strict, plan, bytes.as_slice()),
         Err(fault) => refuse_file(alloc, name, fault),
     }
@@ -88,20 +93,28 @@ fn answer_files<F: Shelf>(
     ensures rises { F.given shelf.old ≤ F.given shelf.new }
 
     ensures reply { IfOk result (Replies (F.held shelf.old)
-        (λ files. of_files strict files schema_name.now document_name.now)
+        (λ files. answer_of files
+        (spec.reads_schema schema_name.now (spec.reads_document strict document_name.now)))
         (F.faults shelf.old) (F.faults shelf.new)) }
-    ensures line { IfOk result (λ a. IsLineOf (Some (schema_name.now, document_name.now)) a.status a.line) }
+    ensures line { IfOk result (λ a. (asked : Asked) →
+        files_of asked ≡ schema_name.now ∷ document_name.now ∷ [] →
+        IsLineOf asked a.status a.line) }
     ensures out { IfOk result (λ a. IsOutOf a.status a.out) }
     ensures words { IfOk result (λ a. a.status ≢ Status.WordsRefused) }
     ensures large { IfOk result (λ a.
-        a.status ≡ Status.TooLarge → F.given shelf.old + spec.limit + 1 ≤ F.given shelf.new) }
+        a.status ≡ Status.TooLarge → F.given shelf.old + file_limit + 1 ≤ F.given shelf.new) }
+    ensures stops { IfOk result (λ a.
+        a.status ≡ Status.ReadFault →
+        WhereTold (F.held shelf.old) (λ files.
+        StopsAt files (schema_name.now ∷ document_name.now ∷ []) (F.given shelf.old)
+        (F.given shelf.new) a.line)) }
     ensures whole { IfOk result (λ a.
         is_printed a.status ≡ true →
         WhereTold (F.held shelf.old) (λ files.
         F.given shelf.new ≡
-        F.given shelf.old + read_size files (Some (schema_name.now, document_name.now)))) }
+        F.given shelf.old + read_size files (schema_name.now ∷ document_name.now ∷ []))) }
 {
-    let bytes = match load(alloc, shelf, schema_name.as_str(), LIMIT) {
+    let bytes = match load(alloc, shelf, schema_name.as_str(), FILE_LIMIT) {
         Ok(bytes) => bytes,
         Err(fault) => return refuse_file(alloc, schema_name, fault),
     };
@@ -112,40 +125,125 @@ fn answer_files<F: Shelf>(
     answer_file(alloc, shelf, strict, &plan, document_name)
 }
 
-/// The whole answer to words, which is made before anything of it is written.
+/// The answer to a command.
+fn answer_command<F: Shelf>(
+    alloc: Global,
+    shelf: &mut F,
+    command: &Command,
+) -> Result<Answer, Memory>
+    requires served { IsServed (Run command.now) }
+    requires given { F.given shelf.old ≤ 2 ^ 62 }
+    ensures held { F.held shelf.new ≡ F.held shelf.old }
+    ensures later { F.faults shelf.old ≤ F.faults shelf.new }
+    ensures rises { F.given shelf.old ≤ F.given shelf.new }
+    ensures unread { files_in command.now ≡ [] → F.given shelf.new ≡ F.given shelf.old }
+
+    ensures reply { IfOk result (Replies (F.held shelf.old)
+        (λ files. answer_of files (spec.reads_of command.now))
+        (F.faults shelf.old) (F.faults shelf.new)) }
+    ensures line { IfOk result (λ a. IsLineOf (Run command.now) a.status a.line) }
+    ensures out { IfOk result (λ a. IsOutOf a.status a.out) }
+    ensures words { IfOk result (λ a. a.status ≢ Status.WordsRefused) }
+    ensures files { 0 < length (files_in command.now) }
+    ensures large { IfOk result (λ a.
+        a.status ≡ Status.TooLarge →
+        F.given shelf.old + limit_of (Run command.now) + 1 ≤ F.given shelf.new) }
+    ensures stops { IfOk result (λ a.
+        a.status ≡ Status.ReadFault →
+        WhereTold (F.held shelf.old) (λ files.
+        StopsAt files (files_in command.now) (F.given shelf.old) (F.given shelf.new) a.line)) }
+    ensures whole { IfOk result (λ a.
+        is_printed a.status ≡ true →
+        WhereTold (F.held shelf.old) (λ files.
+        F.given shelf.new ≡ F.given shelf.old + read_size files (files_in command.now))) }
+{
+    match command {
+        Command::Validate {
+            strict,
+            schema,
+            document,
+        } => answer_files(alloc, shelf, *strict, schema, document),
+        Command::Dump { .. } => Answer::not_built(alloc),
+        Command::Lines { .. } => Answer::not_built(alloc),
+        Command::Check { .. } => Answer::not_built(alloc),
+        Command::JsonSchema { .. } => Answer::not_built(alloc),
+        Command::Workload { .. } => Answer::not_built(alloc),
+    }
+}
+
+/// The answer to what the words ask for, which is made before anything of it is written.
+fn answer_asked<F: Shelf>(alloc: Global, shelf: &mut F, asked: &Asked) -> Result<Answer, Memory>
+    requires served { IsServed asked.now }
+    requires given { F.given shelf.old ≤ 2 ^ 62 }
+    ensures held { F.held shelf.new ≡ F.held shelf.old }
+    ensures later { F.faults shelf.old ≤ F.faults shelf.new }
+    ensures rises { F.given shelf.old ≤ F.given shelf.new }
+    ensures unread { files_of asked.now ≡ [] → F.given shelf.new ≡ F.given shelf.old }
+
+    ensures reply { IfOk result (Replies (F.held shelf.old)
+        (λ files. answer_of files (spec.reads_for asked.now))
+        (F.faults shelf.old) (F.faults shelf.new)) }
+    ensures line { IfOk result (λ a. IsLineOf asked.now a.status a.line) }
+    ensures out { IfOk result (λ a. IsOutOf a.status a.out) }
+    ensures large { IfOk result (λ a.
+        a.status ≡ Status.TooLarge →
+        F.given shelf.old + limit_of asked.now + 1 ≤ F.given shelf.new) }
+    ensures stops { IfOk result (λ a.
+        a.status ≡ Status.ReadFault →
+        WhereTold (F.held shelf.old) (λ files.
+        StopsAt files (files_of asked.now) (F.given shelf.old) (F.given shelf.new) a.line)) }
+    ensures whole { IfOk result (λ a.
+        is_printed a.status ≡ true →
+        WhereTold (F.held shelf.old) (λ files.
+        F.given shelf.new ≡ F.given shelf.old + read_size files (files_of asked.now))) }
+    ensures refused { IfOk result (λ a.
+        (a.status ≡ Status.WordsRefused) ↔ IsSome (place_of asked.now)) }
+    ensures unbuilt { IfOk result (λ a. asked.now ≡ NotBuilt → a.status ≡ Status.NotYet) }
+    ensures not_yet { IfOk result (λ a.
+        a.status ≡ Status.NotYet → (asked.now ≡ NotBuilt) ⊎ (0 < length (files_of asked.now))) }
+{
+    match asked {
+        Asked::Run(command) => answer_command(alloc, shelf, command),
+        Asked::Refused { at } => {
+            let line = lines::words_refused(alloc, *at)?;
+            Ok(Answer::refused(alloc, line, Status::WordsRefused))
+        }
+        Asked::NotBuilt => Answer::not_built(alloc),
+    }
+}
+
+/// The whole answer to words.
 #[tactic(auto, unfolding(crate::specs::Answering::answer))]
 pub(crate) fn work<F: Shelf>(alloc: Global, words: &Words, shelf: &mut F) -> Result<Answer, Memory>
     requires { F.given shelf.old ≤ 2 ^ 62 }
     ensures held { F.held shelf.new ≡ F.held shelf.old }
     ensures later { F.faults shelf.old ≤ F.faults shelf.new }
     ensures rises { F.given shelf.old ≤ F.given shelf.new }
+    ensures unread { files_of (asked words.now) ≡ [] → F.given shelf.new ≡ F.given shelf.old }
 
     ensures reply { IfOk result (Replies (F.held shelf.old) (answer words.now)
         (F.faults shelf.old) (F.faults shelf.new)) }
-    ensures line { IfOk result (λ a. IsLineOf (files_of (asked words.now)) a.status a.line) }
+    ensures line { IfOk result (λ a. IsLineOf (asked words.now) a.status a.line) }
     ensures out { IfOk result (λ a. IsOutOf a.status a.out) }
     ensures large { IfOk result (λ a.
-        a.status ≡ Status.TooLarge → F.given shelf.old + spec.limit + 1 ≤ F.given shelf.new) }
+        a.status ≡ Status.TooLarge →
+        F.given shelf.old + limit_of (asked words.now) + 1 ≤ F.given shelf.new) }
+    ensures stops { IfOk result (λ a.
+        a.status ≡ Status.ReadFault →
+        WhereTold (F.held shelf.old) (λ files.
+        StopsAt files (files_of (asked words.now)) (F.given shelf.old) (F.given shelf.new) a.line)) }
     ensures whole { IfOk result (λ a.
         is_printed a.status ≡ true →
         WhereTold (F.held shelf.old) (λ files.
-        F.given shelf.new ≡
-        F.given shelf.old + read_size files (files_of (asked words.now)))) }
+        F.given shelf.new ≡ F.given shelf.old + read_size files (files_of (asked words.now)))) }
     ensures refused { IfOk result (λ a.
         (a.status ≡ Status.WordsRefused) ↔ IsSome (place_of (asked words.now))) }
-    ensures unread { IfOk result (λ a.
-        a.status ≡ Status.WordsRefused → F.given shelf.new ≡ F.given shelf.old) }
+    ensures unbuilt { IfOk result (λ a.
+        asked words.now ≡ NotBuilt → a.status ≡ Status.NotYet) }
+    ensures not_yet { IfOk result (λ a.
+        a.status ≡ Status.NotYet →
+        (asked words.now ≡ NotBuilt) ⊎ (0 < length (files_of (asked words.now)))) }
 {
-    match read_words(words) {
-        Asked::Unbuilt => Answer::not_built(alloc),
-        Asked::Misplaced(at) => {
-            let line = lines::words_refused(alloc, at)?;
-            Ok(Answer::refused(alloc, line, Status::WordsRefused))
-        }
-        Asked::Validated {
-            strict,
-            schema,
-            document,
-        } => answer_files(alloc, shelf, strict, schema, document),
-    }
+    let asked = command(words)?;
+    answer_asked(alloc, shelf, &asked)
 }

@@ -5,11 +5,14 @@ use Rattle.pv_tree.specs.declared.Tree.{Tree}
 use Rattle.pv_tree.specs.declared.Tree.TheVariants as tree
 use Rattle.pv_json_grammar.specs.Spells.{spells_true}
 use Rattle.pv_json_grammar.proofs.Readings.{scalar_whole}
-use Rattle.pv_command.specs.Picks.{Role, pick_of, pick_read}
+use Rattle.pv_pick.specs.Picks.{Role, pick_of, pick_read}
 use Rattle.pv_command.specs.Numbers.{number_below}
-use Rattle.pv_command.specs.Options.{Options, is_option}
-use Rattle.pv_command.specs.Operands.{Command, check, Operands, whole, a_file, a_file_beside, a_seed, a_count, behind, is_input}
-use Rattle.pv_command.proofs.Levels.{role_bool}
+use Rattle.pv_command.specs.declared.options.Options.{Options}
+use Rattle.pv_command.specs.Options.{is_option}
+use Rattle.pv_command.specs.declared.asked.Command.{Command}
+use Rattle.pv_command.specs.declared.asked.Command.TheVariants.{Check}
+use Rattle.pv_command.specs.Operands.{Operands, whole, a_file, a_file_beside, a_seed, a_count, behind, is_input}
+use Rattle.pv_pick.proofs.Levels.{role_bool}
 use Rattle.pv_command.specs.Command.{Form, State, a_name, options_from, a_pick, operands_from, step, asked_from}
 
 abbrev file : List ℕ
@@ -93,7 +96,7 @@ pick_complete f next r = record {
 
 pub complete : (s : State) → Completes s
 unfolding asked_from step behind
-complete a_name = record { words = codes "check" ∷ file ∷ []; command = check file; asked = λ place. refl }
+complete a_name = record { words = codes "check" ∷ file ∷ []; command = Check file; asked = λ place. refl }
 complete (options_from f o) = options_at f o (f.operands o) refl
 complete (a_pick f next) = pick_complete f next (options_at f _ _ refl)
 complete (operands_from o) = operands_complete o

@@ -1,14 +1,18 @@
 -- No other command than `validate` is asked for by `validate`.
-use Rattle.std.proofs.Common.{◌≡◌, ℕ, ◌+◌, ◌⊎◌, inl, inr, Bool, true, false, cond, List, [], ◌∷◌, codes, drop, refl, sym, subst}
+use Rattle.std.proofs.Common.{◌≡◌, ℕ, ◌+◌, ◌⊎◌, inl, inr, Bool, true, false, cond, List, [], ◌∷◌, codes, drop, refl, ap, sym, subst}
 use Rattle.std.specs.Prelude.{Option, Some, None, Ok, bytes_eq, ◌^◌, ◌&&◌}
 use Rattle.std.specs.List.{find}
+use Rattle.std.specs.Option.{option_map}
 use Rattle.std.proofs.lemmas.Slice.Eq.{bytes_eq-Decides}
 use Rattle.pv_tree.specs.declared.Tree.{Tree}
-use Rattle.pv_command.specs.Picks.{pick_of}
+use Rattle.pv_pick.specs.Picks.{pick_of}
 use Rattle.pv_command.specs.Numbers.{number_below}
-use Rattle.pv_command.specs.Options.{Options, is_option, Effect, flag, with_pick, effect_of}
-use Rattle.pv_command.specs.Operands.{Command, validate, dump, lines, check, jsonschema, workload, Operands, whole, a_file, a_file_beside, a_seed, a_count, behind, completed, number_by, is_input}
-use Rattle.pv_command.specs.Command.{Form, validate_form, forms, form_named, State, a_name, options_from, a_pick, operands_from, step, finished, behind_operand, behind_option, behind_pick, Asked, at_end, onward, asked_from}
+use Rattle.pv_command.specs.declared.options.Options.{Options}
+use Rattle.pv_command.specs.Options.{is_option, Effect, flag, with_pick, effect_of}
+use Rattle.pv_command.specs.declared.asked.Command.{Command}
+use Rattle.pv_command.specs.declared.asked.Command.TheVariants.{Validate, Dump, Lines, Check, JsonSchema, Workload}
+use Rattle.pv_command.specs.Operands.{Operands, whole, a_file, a_file_beside, a_seed, a_count, behind, completed, number_by, is_input}
+use Rattle.pv_command.specs.Command.{Form, validate_form, CommandRow, built, commands, form_named, State, a_name, options_from, a_pick, operands_from, step, finished, behind_operand, behind_option, behind_pick, Parsed, at_end, onward, asked_from}
 
 -- ---- what an answer comes from
 
@@ -20,7 +24,7 @@ pub completes : (place : ℕ) (o : Option Command) (c : Command) → at_end plac
 completes place None c e = cc
 completes place (Some d) c e = cc
 
-pub moves_on : (place : ℕ) (next : State → Asked) (o : Option State) (c : Command) → onward place next o ≡ Ok c → (t : State) × (o ≡ Some t) × (next t ≡ Ok c)
+pub moves_on : (place : ℕ) (next : State → Parsed) (o : Option State) (c : Command) → onward place next o ≡ Ok c → (t : State) × (o ≡ Some t) × (next t ≡ Ok c)
 moves_on place next None c e = cc
 moves_on place next (Some t) c e = (t, refl, e)
 
@@ -30,12 +34,12 @@ some_same x y e = cc
 -- ---- commands other than `validate`
 
 abbrev pub is_validate : Command → Bool
-is_validate (validate strict schema document) = true
-is_validate (dump options schema document) = false
-is_validate (lines strict schema document) = false
-is_validate (check schema) = false
-is_validate (jsonschema schema) = false
-is_validate (workload seed count) = false
+is_validate (Validate strict schema document) = true
+is_validate (Dump options schema document) = false
+is_validate (Lines strict schema document) = false
+is_validate (Check schema) = false
+is_validate (JsonSchema schema) = false
+is_validate (Workload seed count) = false
 
 abbrev AskOther : Operands → Type 0
 AskOther (whole c) = is_validate c ≡ false
@@ -116,27 +120,36 @@ leads_other s place (word ∷ words) c other e =
 abbrev Named : List ℕ → Form → Type 0
 Named name f = ((name ≡ codes "validate") × (f ≡ validate_form)) ⊎ FormsOther f
 
-abbrev Others : List Form → Type 0
+abbrev Others : List CommandRow → Type 0
 Others [] = Unit {0}
-Others (f ∷ fs) = FormsOther f × Others fs
+Others (r ∷ rs) = FormsOther r.form × Others rs
 
-abbrev found_in : List ℕ → List Form → Option Form
-found_in name fs = find (λ f. bytes_eq name f.name) fs
+abbrev found_in : List ℕ → List CommandRow → Option CommandRow
+found_in name rs = find (λ r. bytes_eq name r.name) rs
 
-found : (name : List ℕ) (f : Form) (fs : List Form) → Others fs → found_in name fs ≡ Some f → FormsOther f
-found name f [] others e = cc
-found name f (g ∷ gs) others e = elim (chosen (bytes_eq name g.name) (Some g) (found_in name gs) (Some f) e) [
-  | inl w ↦ subst FormsOther (some_same g f w.1) others.0
-  | inr w ↦ found name f gs others.1 w.1
+form_in : (o : Option CommandRow) (f : Form) → option_map (λ (r : CommandRow). r.form) o ≡ Some f → (r : CommandRow) × (o ≡ Some r) × (r.form ≡ f)
+form_in None f e = cc
+form_in (Some r) f e = (r, refl, some_same r.form f e)
+
+found : (name : List ℕ) (r : CommandRow) (rs : List CommandRow) → Others rs → found_in name rs ≡ Some r → FormsOther r.form
+found name r [] others e = cc
+found name r (q ∷ qs) others e = elim (chosen (bytes_eq name q.name) (Some q) (found_in name qs) (Some r) e) [
+  | inl w ↦ subst (λ (x : CommandRow). FormsOther x.form) (some_same q r w.1) others.0
+  | inr w ↦ found name r qs others.1 w.1
 ]
 
-named_in : (name : List ℕ) (f : Form) (fs : List Form) → Others fs → found_in name (validate_form ∷ fs) ≡ Some f → Named name f
-named_in name f fs others e = elim (chosen (bytes_eq name (codes "validate")) (Some validate_form) (found_in name fs) (Some f) e) [
-  | inl w ↦ inl ((bytes_eq-Decides name (codes "validate")).0 w.0, sym (some_same validate_form f w.1))
-  | inr w ↦ inr (found name f fs others w.1)
+abbrev validate_row : CommandRow
+validate_row = built (codes "validate") validate_form
+
+named_in : (name : List ℕ) (r : CommandRow) (rs : List CommandRow) → Others rs → found_in name (validate_row ∷ rs) ≡ Some r → Named name r.form
+named_in name r rs others e = elim (chosen (bytes_eq name (codes "validate")) (Some validate_row) (found_in name rs) (Some r) e) [
+  | inl w ↦ inl ((bytes_eq-Decides name (codes "validate")).0 w.0, sym (ap (λ (x : CommandRow). x.form) (some_same validate_row r w.1)))
+  | inr w ↦ inr (found name r rs others w.1)
 ]
 
 pub named : (name : List ℕ) (f : Form) → form_named name ≡ Some f → Named name f
 named name f e =
-    named_in name f (drop 1 forms)
-    (λ o schema document. refl, (λ o schema document. refl, (λ o schema. refl, (λ o schema. refl, (λ o seed count. refl, tt))))) e
+    let r = form_in (found_in name commands) f e in
+    subst (λ g. Named name g) r.2
+    (named_in name r.0 (drop 1 commands)
+    (λ o schema document. refl, (λ o schema document. refl, (λ o schema. refl, (λ o schema. refl, (λ o seed count. refl, tt))))) r.1)

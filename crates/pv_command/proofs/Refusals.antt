@@ -1,8 +1,8 @@
 -- Where words are refused.
 use Rattle.std.proofs.Common.{◌≡◌, ℕ, zero, suc, ◌+◌, ◌-◌, ◌≤◌, List, [], ◌∷◌, ◌++◌, length, take, refl, ap, ◌∙◌, sym, arith}
 use Rattle.std.specs.Prelude.{Option, Some, None, Ok, Err}
-use Rattle.pv_command.specs.Operands.{Command}
-use Rattle.pv_command.specs.Command.{State, a_name, step, finished, Asked, at_end, onward, asked_from, command}
+use Rattle.pv_command.specs.declared.asked.Command.{Command}
+use Rattle.pv_command.specs.Command.{State, a_name, step, finished, Parsed, at_end, onward, asked_from, command}
 use Rattle.pv_command.proofs.Completions.{complete}
 
 abbrev Words : Type 0
@@ -13,11 +13,11 @@ missing place at None e = cc
 missing place at (Some c) e = cc
 
 -- the word is refused, or one behind it is
-pub data Refuses (place at : ℕ) (next : State → Asked) (moved : Option State) : Type 0 where
+pub data Refuses (place at : ℕ) (next : State → Parsed) (moved : Option State) : Type 0 where
   here : moved ≡ None → at ≡ place → Refuses place at next moved
   later : (t : State) → moved ≡ Some t → next t ≡ Err at → Refuses place at next moved
 
-refuses : (place at : ℕ) (next : State → Asked) (moved : Option State) → onward place next moved ≡ Err at → Refuses place at next moved
+refuses : (place at : ℕ) (next : State → Parsed) (moved : Option State) → onward place next moved ≡ Err at → Refuses place at next moved
 refuses place at next None e = here refl (cc)
 refuses place at next (Some t) e = later t refl e
 

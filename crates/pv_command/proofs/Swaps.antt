@@ -3,18 +3,16 @@ use Rattle.std.proofs.Common.{◌≡◌, ℕ, ◌+◌, Bool, true, false, cond, 
 use Rattle.std.specs.Prelude.{Option, Some, None, Ok, is_some}
 use Rattle.pv_tree.specs.declared.Tree.{Tree}
 use Rattle.pv_tree.specs.declared.Tree.TheVariants as tree
-use Rattle.pv_command.specs.Picks.{pick_of}
-use Rattle.pv_command.specs.Options.{Options, no_options, strictness, serialisation, flag, with_pick, effect_of}
-use Rattle.pv_command.specs.Operands.{Command, dump, schema_and_document}
-use Rattle.pv_command.specs.Command.{Form, form, State, options_from, step, finished, behind_option, behind_pick, onward, asked_from, command}
+use Rattle.pv_pick.specs.Picks.{pick_of}
+use Rattle.pv_command.specs.Options.{no_options, flag, with_pick, effect_of}
+use Rattle.pv_command.specs.declared.options.Options.{Options}
+use Rattle.pv_command.specs.declared.asked.Command.{Command}
+use Rattle.pv_command.specs.Command.{dump_form, State, options_from, step, finished, behind_option, behind_pick, onward, asked_from, command}
 use Rattle.pv_command.specs.Orders.{Choice, strict, lax, include, exclude, by_alias, exclude_unset, exclude_defaults, exclude_none, spelled, options_before, dump_words}
 use Rattle.pv_command.proofs.Others.{completes, moves_on}
 
 abbrev Words : Type 0
 Words = List (List ℕ)
-
-abbrev dump_form : Form
-dump_form = form (codes "dump") (strictness ++ serialisation) (λ o. schema_and_document (dump o))
 
 -- it can no longer stand
 abbrev is_barred : Choice → Options → Bool

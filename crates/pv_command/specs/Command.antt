@@ -1,38 +1,79 @@
 -- What the words ask for.
-use Rattle.std.specs.Prelude.{ℕ, ◌+◌, if◌then◌else◌, List, [], ◌∷◌, ◌++◌, codes, Option, Some, None, Result, Ok, Err, bytes_eq}
+use Rattle.std.specs.Prelude.{ℕ, ◌+◌, Bool, true, false, if◌then◌else◌, List, [], ◌∷◌, ◌++◌, codes, Option, Some, None, Result, Ok, Err, bytes_eq}
 use Rattle.std.specs.List.{find}
+use Rattle.std.specs.Option.{option_map}
 use Rattle.pv_tree.specs.declared.Tree.{Tree}
-use Rattle.pv_command.specs.Picks.{pick_of}
-use Rattle.pv_command.specs.Options.{Options, Effect, flag, with_pick, Row, is_option, no_options, strictness, serialisation, effect_of}
-use Rattle.pv_command.specs.Operands.{Command, validate, dump, lines, check, jsonschema, workload, Operands, behind, completed, schema_and_document, one_schema, seed_and_count}
+use Rattle.pv_pick.specs.Picks.{pick_of}
+use Rattle.pv_command.specs.declared.options.Options.{Options}
+use Rattle.pv_command.specs.declared.asked.Asked.{Asked}
+use Rattle.pv_command.specs.declared.asked.Asked.TheVariants.{Run, Refused, NotBuilt}
+use Rattle.pv_command.specs.declared.asked.Command.{Command}
+use Rattle.pv_command.specs.declared.asked.Command.TheVariants.{Validate, Dump, Lines, Check, JsonSchema, Workload}
+use Rattle.pv_command.specs.Options.{Effect, flag, with_pick, Row, is_option, no_options, strictness, serialisation, effect_of}
+use Rattle.pv_command.specs.Operands.{Operands, behind, completed, schema_and_document, one_schema, seed_and_count}
 
--- a command's name, its options, and its operands by what the options ask for
+-- what stands behind a command's name: its options, and its operands by what the options ask for
 pub record Form : Type 0 where
-  pub name : List ℕ
   pub options : List Row
   pub operands : Options → Operands
 
 -- a form of these parts
-abbrev pub form : List ℕ → List Row → (Options → Operands) → Form
-form name options operands = record { name = name; options = options; operands = operands }
+abbrev pub form : List Row → (Options → Operands) → Form
+form options operands = record { options = options; operands = operands }
 
--- the command `validate`
+-- behind `validate`
 abbrev pub validate_form : Form
-validate_form = form (codes "validate") strictness (λ o. schema_and_document (validate o.strict))
+validate_form = form strictness (λ o. schema_and_document (Validate o.strict))
+
+-- behind `dump`
+abbrev pub dump_form : Form
+dump_form = form (strictness ++ serialisation) (λ o. schema_and_document (Dump o))
+
+-- behind `lines`
+abbrev pub lines_form : Form
+lines_form = form strictness (λ o. schema_and_document (Lines o.strict))
+
+-- a command's name, what stands behind it, and whether the program has it so far
+pub record CommandRow : Type 0 where
+  pub name : List ℕ
+  pub form : Form
+  pub is_built : Bool
+
+-- a command that the program has
+abbrev pub built : List ℕ → Form → CommandRow
+built name form = record { name = name; form = form; is_built = true }
+
+-- a command that is not built yet
+abbrev pub unbuilt : List ℕ → Form → CommandRow
+unbuilt name form = record { name = name; form = form; is_built = false }
 
 -- all commands
-abbrev pub forms : List Form
-forms =
-    validate_form ∷
-    form (codes "dump") (strictness ++ serialisation) (λ o. schema_and_document (dump o)) ∷
-    form (codes "lines") strictness (λ o. schema_and_document (lines o.strict)) ∷
-    form (codes "check") [] (λ o. one_schema check) ∷
-    form (codes "jsonschema") [] (λ o. one_schema jsonschema) ∷
-    form (codes "workload") [] (λ o. seed_and_count workload) ∷ []
+abbrev pub commands : List CommandRow
+commands =
+    built (codes "validate") validate_form ∷
+    unbuilt (codes "dump") dump_form ∷
+    unbuilt (codes "lines") lines_form ∷
+    unbuilt (codes "check") (form [] (λ o. one_schema Check)) ∷
+    unbuilt (codes "jsonschema") (form [] (λ o. one_schema JsonSchema)) ∷
+    unbuilt (codes "workload") (form [] (λ o. seed_and_count Workload)) ∷ []
 
 -- the command of this name
+abbrev pub command_named : List ℕ → Option CommandRow
+command_named word = find (λ r. bytes_eq word r.name) commands
+
+-- what stands behind this name
 abbrev pub form_named : List ℕ → Option Form
-form_named word = find (λ f. bytes_eq word f.name) forms
+form_named word = option_map (λ (r : CommandRow). r.form) (command_named word)
+
+-- a command of this kind is one that is not built yet
+abbrev pub is_unbuilt_row : Option CommandRow → Bool
+is_unbuilt_row None = false
+is_unbuilt_row (Some r) = if r.is_built then false else true
+
+-- the first word is a command that is not built yet
+abbrev pub begins_unbuilt : List (List ℕ) → Bool
+begins_unbuilt [] = false
+begins_unbuilt (name ∷ words) = is_unbuilt_row (command_named name)
 
 -- what may follow the words so far
 pub data State : Type 0 where
@@ -83,24 +124,45 @@ finished (a_pick f next) = None
 finished (operands_from operands) = completed operands
 
 -- a command, or the place of the first word that cannot stand there or is missing
-abbrev pub Asked : Type 0
-Asked = Result Command ℕ
+abbrev pub Parsed : Type 0
+Parsed = Result Command ℕ
 
 -- behind the last word, of which this is the next place
-abbrev pub at_end : ℕ → Option Command → Asked
+abbrev pub at_end : ℕ → Option Command → Parsed
 at_end place None = Err place
 at_end place (Some c) = Ok c
 
 -- at a word, by what may follow it
-abbrev pub onward : ℕ → (State → Asked) → Option State → Asked
+abbrev pub onward : ℕ → (State → Parsed) → Option State → Parsed
 onward place next None = Err place
 onward place next (Some s) = next s
 
 -- what the words from this place on ask for
-unfoldable pub asked_from : State → ℕ → List (List ℕ) → Asked
+unfoldable pub asked_from : State → ℕ → List (List ℕ) → Parsed
 asked_from s place [] = at_end place (finished s)
 asked_from s place (word ∷ words) = onward place (λ t. asked_from t (place + 1) words) (step s word)
 
 -- of all words
-unfoldable pub command : List (List ℕ) → Asked
+unfoldable pub command : List (List ℕ) → Parsed
 command words = asked_from a_name 1 words
+
+-- by whether the first word is a command that is not built, and by what all words say
+abbrev pub asked_by : Bool → Parsed → Asked
+asked_by true words = NotBuilt
+asked_by false (Err at) = Refused at
+asked_by false (Ok c) = Run c
+
+-- what the words ask for
+unfoldable pub asked : List (List ℕ) → Asked
+asked words = asked_by (begins_unbuilt words) (command words)
+
+-- a command that is run is one that the program has so far
+abbrev pub IsServed : Asked → Type 0
+IsServed (Run (Validate strict schema document)) = Unit {0}
+IsServed (Run (Dump options schema document)) = ⊥
+IsServed (Run (Lines strict schema document)) = ⊥
+IsServed (Run (Check schema)) = ⊥
+IsServed (Run (JsonSchema schema)) = ⊥
+IsServed (Run (Workload seed count)) = ⊥
+IsServed (Refused at) = Unit {0}
+IsServed NotBuilt = Unit {0}

@@ -1,8 +1,7 @@
-pub mod Picks
 pub mod Numbers
 pub mod Options
 pub mod Operands
 pub mod Command
 pub mod Validating
 pub mod Orders
-pub mod Built
+pub mod Entries

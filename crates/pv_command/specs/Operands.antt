@@ -1,16 +1,7 @@
--- The commands and their operands.
+-- The operands of the commands.
 use Rattle.std.specs.Prelude.{ℕ, ◌^◌, Bool, ◌&&◌, if◌then◌else◌, List, codes, Option, Some, None, bytes_eq}
 use Rattle.pv_command.specs.Numbers.{number_below}
-use Rattle.pv_command.specs.Options.{Options}
-
--- a command with what it is asked for
-pub data Command : Type 0 where
-  validate : (strict : Option Bool) (schema document : List ℕ) → Command
-  dump : (options : Options) (schema document : List ℕ) → Command
-  lines : (strict : Option Bool) (schema document : List ℕ) → Command
-  check : (schema : List ℕ) → Command
-  jsonschema : (schema : List ℕ) → Command
-  workload : (seed count : ℕ) → Command
+use Rattle.pv_command.specs.declared.asked.Command.{Command}
 
 -- the operands that have to come: nothing more, or a word of some kind and, by what it says,
 -- those behind it

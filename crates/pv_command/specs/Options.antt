@@ -2,6 +2,7 @@
 use Rattle.std.specs.Prelude.{ℕ, Bool, false, true, ◌&&◌, ◌==◌, if◌then◌else◌, List, [], ◌∷◌, codes, Option, Some, None, is_some, bytes_eq}
 use Rattle.std.specs.List.{find}
 use Rattle.pv_tree.specs.declared.Tree.{Tree}
+use Rattle.pv_command.specs.declared.options.Options.{Options}
 
 -- the byte that options begin with
 abbrev pub dash : ℕ
@@ -12,17 +13,6 @@ abbrev pub is_option : List ℕ → Bool
 is_option [] = false
 is_option (a ∷ []) = false
 is_option (a ∷ b ∷ more) = a == dash && b == dash
-
--- what the options ask for: strict or lax, where it is said; the picks as they were read; and
--- whether each of the others stood
-pub record Options : Type 0 where
-  pub strict : Option Bool
-  pub include : Option Tree
-  pub exclude : Option Tree
-  pub by_alias : Bool
-  pub exclude_unset : Bool
-  pub exclude_defaults : Bool
-  pub exclude_none : Bool
 
 -- no option stood
 abbrev pub no_options : Options

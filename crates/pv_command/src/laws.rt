@@ -1,13 +1,9 @@
 //! What holds of the words. These functions do nothing: their contracts are the laws.
 
-ghost use Rattle.std.specs.Prelude.{◌≡◌, ◌≤◌, ◌+◌, ◌-◌, ◌++◌, ◌∷◌, ◌↔◌, ℕ, Bool, true, false, List, Option, length, take, Ok, Err};
-ghost use Rattle.std.specs.List.{list_all};
-ghost use Rattle.pv_tree.specs.Names.{Distinct};
-ghost use Rattle.pv_tree.specs.declared.Tree.{Tree};
-ghost use Rattle.pv_tree.specs.declared.Tree.TheVariants as tree;
+ghost use Rattle.std.specs.Prelude.{◌≡◌, ◌≤◌, ◌+◌, ◌-◌, ◌++◌, ◌∷◌, ◌↔◌, ℕ, Bool, List, Option, length, take, Ok, Err};
 ghost use Rattle.pv_command.specs.Orders.{Choice, dump_words};
-ghost use Rattle.pv_command.specs.Picks.{is_count, is_item, is_pick};
-ghost use Rattle.pv_command.specs.Operands.{Command, validate};
+ghost use Rattle.pv_command.specs.declared.asked.Command.{Command};
+ghost use Rattle.pv_command.specs.declared.asked.Command.TheVariants.{Validate};
 ghost use Rattle.pv_command.specs.Validating.{IsValidate};
 ghost use Rattle.pv_command.specs.Command.{command};
 
@@ -30,22 +26,7 @@ pub fn refusals_name_the_first_word_that_cannot_stand()
 /// `--lax`, and then by two files, of which the first is no option and one at most is standard input.
 pub fn validate_is_written_so()
     ensures { (words : List (List ℕ)) (strict : Option Bool) (schema document : List ℕ) →
-        (command words ≡ Ok (validate strict schema document)) ↔ IsValidate words strict schema document }
-{}
-
-/// A pick is `true`, an object of picks, or a list of texts and counts. Nothing else is a pick.
-pub fn picks_are_so()
-    ensures flag { (b : Bool) → is_pick (tree.Bool b) ≡ b }
-    ensures object { (d : Distinct Tree) →
-        is_pick (tree.Object d) ≡ list_all (λ m. is_pick m.1) d.members }
-    ensures array { (items : List Tree) → is_pick (tree.Array items) ≡ list_all is_item items }
-    ensures others { (is_pick tree.Null ≡ false) × ((lexeme : List ℕ) → is_pick (tree.Num lexeme) ≡ false) ×
-        ((text : List ℕ) → is_pick (tree.Str text) ≡ false) }
-    ensures item { ((text : List ℕ) → is_item (tree.Str text) ≡ true) ×
-        ((lexeme : List ℕ) → is_item (tree.Num lexeme) ≡ is_count lexeme) }
-    ensures no_item { (is_item tree.Null ≡ false) × ((b : Bool) → is_item (tree.Bool b) ≡ false) ×
-        ((items : List Tree) → is_item (tree.Array items) ≡ false) ×
-        ((d : Distinct Tree) → is_item (tree.Object d) ≡ false) }
+        (command words ≡ Ok (Validate strict schema document)) ↔ IsValidate words strict schema document }
 {}
 
 /// Two options of a dump that stand next to each other may change places, each with its pick. So

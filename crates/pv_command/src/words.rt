@@ -46,4 +46,9 @@ impl Words {
     {
         self.words.as_slice()
     }
+
+    /// Where memory comes from.
+    pub(crate) fn alloc(&self) -> Global {
+        self.alloc
+    }
 }

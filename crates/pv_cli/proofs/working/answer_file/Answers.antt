@@ -1,4 +1,6 @@
-use Rattle.std.proofs.Common.{Some, refl}
+use Rattle.std.proofs.Common.{refl}
+use Rattle.pv_cli.specs.Answering as answering
+use Rattle.pv_cli.specs.Asking.{file_limit}
 use Rattle.pv_cli.specs.Documents.{of_document}
 use Rattle.pv_cli.proofs.Replies.{loaded, decided, ok_of}
 use Rattle.pv_cli.proofs.Shapes.{document_settled}
@@ -10,13 +12,13 @@ returns-in-Ok-clause-reply g c =
     let a = of_document c.args.strict c.args.plan.now c.in-Ok.bytes in
     let answered = rw c.as_slice.ensures at c.answer_document.ensures in
     ok_of c.answer_document.result a _ answered
-    (loaded (g.F.Shelf.held c.args.shelf.now) c.args.name.now c.in-Ok.bytes (λ _. of_document c.args.strict c.args.plan.now) _ _ a is c.in-Ok.ensures.size
+    (loaded (g.F.Shelf.held c.args.shelf.now) c.args.name.now c.in-Ok.bytes file_limit (λ content. answering.answered (of_document c.args.strict c.args.plan.now content)) _ _ a is c.in-Ok.ensures.size
     (decided (g.F.Shelf.held c.args.shelf.now) (λ _. a) _ _ a (document_settled c.args.strict c.args.plan.now c.in-Ok.bytes).read (λ _. refl)))
 
 pub returns-in-Ok-clause-line : goal.returns-in-Ok-clause-line
 returns-in-Ok-clause-line g c =
     ok_of c.answer_document.result (of_document c.args.strict c.args.plan.now c.as_slice.result.now) _ c.answer_document.ensures
-    (λ first. (document_settled c.args.strict c.args.plan.now c.as_slice.result.now).line (Some (first, c.args.name.now)))
+    (λ asked first named. (document_settled c.args.strict c.args.plan.now c.as_slice.result.now).line asked)
 
 pub returns-in-Ok-clause-out : goal.returns-in-Ok-clause-out
 returns-in-Ok-clause-out g c =
@@ -27,6 +29,11 @@ pub returns-in-Ok-clause-large : goal.returns-in-Ok-clause-large
 returns-in-Ok-clause-large g c =
     ok_of c.answer_document.result (of_document c.args.strict c.args.plan.now c.as_slice.result.now) _ c.answer_document.ensures
     (λ e. absurd ((document_settled c.args.strict c.args.plan.now c.as_slice.result.now).small e))
+
+pub returns-in-Ok-clause-stops : goal.returns-in-Ok-clause-stops
+returns-in-Ok-clause-stops g c =
+    ok_of c.answer_document.result (of_document c.args.strict c.args.plan.now c.as_slice.result.now) _ c.answer_document.ensures
+    (λ e. absurd ((document_settled c.args.strict c.args.plan.now c.as_slice.result.now).read e))
 
 pub returns-in-Ok-clause-words : goal.returns-in-Ok-clause-words
 returns-in-Ok-clause-words g c =

@@ -1,37 +1,44 @@
-use Rattle.std.proofs.Common.{Some, sym}
+use Rattle.std.proofs.Common.{sym, ap, ◌∙◌}
 use Rattle.pv_json_grammar.specs.Documents.{reading}
-use Rattle.pv_edge.specs.Files.{file}
-use Rattle.pv_cli.specs.Answering.{of_file, of_schema}
-use Rattle.pv_cli.specs.Documents.{of_document}
-use Rattle.pv_cli.proofs.Replies.{loaded, decided}
-use Rattle.pv_cli.proofs.Shapes.{always, answered_settled, answered_silent}
+use Rattle.pv_cli.specs.Answering.{answer_of, of_schema, reads_document, schema_or_answer}
+use Rattle.pv_cli.specs.Asking.{file_limit}
+use Rattle.pv_cli.specs.SchemaFiles.{schema_file}
+use Rattle.pv_cli.specs.Steps.{shown}
+use Rattle.pv_cli.proofs.Replies.{loaded, decided, ok_then}
+use Rattle.pv_cli.proofs.Shapes.{schema_unprinted}
 use Rattle.pv_cli.proofs.working.answer_files.Goals as goal
 
 pub returns-in-Answered-clause-reply : goal.returns-in-Answered-clause-reply
 returns-in-Answered-clause-reply g c =
     let held = g.F.Shelf.held c.args.shelf.now in
-    let name = c.args.document_name.now in
     let bytes = c.in-Ok.bytes in
     let is = rw c.as_str.ensures at c.in-Ok.ensures.bytes in
-    let decides = rw c.as_slice.ensures at c.in_ok-plan.ensures in
-    loaded held c.args.schema_name.now bytes
-    (λ files content. of_schema (λ schema. of_file name (of_document c.args.strict schema) (file files name)) (reading 128 content)) _ _ c.in-Answered.answer is c.in-Ok.ensures.size
-    (decided held (λ files. of_schema (λ schema. of_file name (of_document c.args.strict schema) (file files name)) (reading 128 bytes)) _ _ c.in-Answered.answer
-    (answered_settled _ _ c.in-Answered.answer decides c.in-Answered.is).read
-    (λ files. sym (always _ _ c.in-Answered.answer decides c.in-Answered.is (λ schema. of_file name (of_document c.args.strict schema) (file files name)))))
+    let next = reads_document c.args.strict c.args.document_name.now in
+    let told = rw c.as_slice.ensures at c.in_ok-plan.ensures in
+    let decides = sym told ∙ ap shown c.in-Answered.is in
+    loaded held c.args.schema_name.now bytes file_limit (λ content. of_schema next (schema_or_answer (schema_file (reading 128 content)))) _ _ c.in-Answered.answer is c.in-Ok.ensures.size
+    (decided held (λ files. answer_of files (of_schema next (schema_or_answer (schema_file (reading 128 bytes))))) _ _ c.in-Answered.answer
+    (schema_unprinted _ c.in-Answered.answer decides).settled.read
+    (λ files. sym (ap (λ r. answer_of files (of_schema next r)) decides)))
 
 pub returns-in-Answered-clause-line : goal.returns-in-Answered-clause-line
 returns-in-Answered-clause-line g c =
-    (answered_settled _ _ c.in-Answered.answer c.in_ok-plan.ensures c.in-Answered.is).line (Some (c.args.schema_name.now, c.args.document_name.now))
+    λ asked named. (schema_unprinted _ c.in-Answered.answer (sym c.in_ok-plan.ensures ∙ ap shown c.in-Answered.is)).settled.line asked
 
 pub returns-in-Answered-clause-out : goal.returns-in-Answered-clause-out
-returns-in-Answered-clause-out g c = (answered_settled _ _ c.in-Answered.answer c.in_ok-plan.ensures c.in-Answered.is).out
+returns-in-Answered-clause-out g c = (schema_unprinted _ c.in-Answered.answer (sym c.in_ok-plan.ensures ∙ ap shown c.in-Answered.is)).settled.out
 
 pub returns-in-Answered-clause-large : goal.returns-in-Answered-clause-large
-returns-in-Answered-clause-large g c = λ e. absurd ((answered_settled _ _ c.in-Answered.answer c.in_ok-plan.ensures c.in-Answered.is).small e)
+returns-in-Answered-clause-large g c = λ e. absurd ((schema_unprinted _ c.in-Answered.answer (sym c.in_ok-plan.ensures ∙ ap shown c.in-Answered.is)).settled.small e)
+
+pub returns-in-Answered-clause-stops : goal.returns-in-Answered-clause-stops
+returns-in-Answered-clause-stops g c = λ e. absurd ((schema_unprinted _ c.in-Answered.answer (sym c.in_ok-plan.ensures ∙ ap shown c.in-Answered.is)).settled.read e)
 
 pub returns-in-Answered-clause-whole : goal.returns-in-Answered-clause-whole
-returns-in-Answered-clause-whole g c = λ e. absurd (answered_silent _ _ c.in-Answered.answer c.in_ok-plan.ensures c.in-Answered.is e)
+returns-in-Answered-clause-whole g c = λ e. absurd ((schema_unprinted _ c.in-Answered.answer (sym c.in_ok-plan.ensures ∙ ap shown c.in-Answered.is)).silent e)
 
 pub returns-in-Answered-clause-words : goal.returns-in-Answered-clause-words
-returns-in-Answered-clause-words g c = λ e. absurd ((answered_settled _ _ c.in-Answered.answer c.in_ok-plan.ensures c.in-Answered.is).worded e)
+returns-in-Answered-clause-words g c = λ e. absurd ((schema_unprinted _ c.in-Answered.answer (sym c.in_ok-plan.ensures ∙ ap shown c.in-Answered.is)).settled.worded e)
+
+pub returns-clause-line : goal.returns-clause-line
+returns-clause-line g c = ok_then c.answer_file.result _ _ c.answer_file.ensures.line (λ a line asked named. line asked c.args.schema_name.now named)

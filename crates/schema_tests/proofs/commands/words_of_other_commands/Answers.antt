@@ -6,12 +6,12 @@ use Rattle.pv_json_grammar.specs.Reading.{number, after, skip}
 use Rattle.pv_json_grammar.specs.Documents.{reading}
 use Rattle.pv_json_grammar.specs.Values.{document, value}
 use Rattle.pv_command.specs.Numbers.{number_below}
-use Rattle.pv_command.specs.Picks.{Role, pick_of}
+use Rattle.pv_pick.specs.Picks.{Role, pick_of}
 use Rattle.pv_command.specs.Options.{effect_of}
 use Rattle.pv_command.specs.Operands.{behind}
 use Rattle.pv_command.specs.Command.{asked_from, step, command}
 use Rattle.pv_command.proofs.Completions.{true_is_pick}
-use Rattle.pv_command.proofs.Levels.{role_num}
+use Rattle.pv_pick.proofs.Levels.{role_num}
 use Rattle.schema_tests.proofs.commands.words_of_other_commands.Goals as goal
 
 three_is_none : pick_of (codes "3") ≡ None

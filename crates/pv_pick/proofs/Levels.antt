@@ -8,7 +8,7 @@ use Rattle.pv_tree.specs.declared.Tree.TheVariants as tree
 use Rattle.pv_tree.specs.declared.Tree.TheVariants.{rolls-Null, rolls-Bool, rolls-Num, rolls-Str, rolls-Array, rolls-Object}
 use Rattle.pv_tree.specs.declared.Tree.TheOpen.{Tree-F}
 use Rattle.pv_tree.specs.declared.Tree.TheFolds.{fold-roll-Tree}
-use Rattle.pv_command.specs.Picks.{Role, role_step, role, is_pick, is_item}
+use Rattle.pv_pick.specs.Picks.{Role, role_step, role, is_pick, is_item}
 
 pub role_null : role tree.Null ≡ role_step Tree-F.Null
 role_null = ap role (sym rolls-Null) ∙ fold-roll-Tree Role role_step Tree-F.Null

@@ -1,7 +1,7 @@
 use Rattle.std.proofs.Common.{ap}
-use Rattle.pv_command.specs.Picks.{Role}
-use Rattle.pv_command.proofs.Levels.{role_null, role_bool, role_num, role_str, role_array, role_object, pick_array, pick_object}
-use Rattle.pv_command.proofs.laws.picks_are_so.Goals as goal
+use Rattle.pv_pick.specs.Picks.{Role}
+use Rattle.pv_pick.proofs.Levels.{role_null, role_bool, role_num, role_str, role_array, role_object, pick_array, pick_object}
+use Rattle.pv_pick.proofs.laws.picks_are_so.Goals as goal
 
 pub returns-clause-flag : goal.returns-clause-flag
 returns-clause-flag c = λ b. ap (λ (r : Role). r.is_pick) (role_bool b)
