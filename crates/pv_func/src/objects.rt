@@ -1,0 +1,1 @@
+//! All that validation asks of a registry.
