@@ -52,6 +52,18 @@ module _ {B A P : Type 0} where
   plain_of (After a) = None
   plain_of (Plain p) = Some p
 
+  -- the function of this number, where there is one and it sees trees before they are validated
+  abbrev pub before_numbered : Named (Func B A P) → ℕ → Option B
+  before_numbered fs number = option_and_then before_of (numbered fs number)
+
+  -- the same where it sees values
+  abbrev pub after_numbered : Named (Func B A P) → ℕ → Option A
+  after_numbered fs number = option_and_then after_of (numbered fs number)
+
+  -- the same where it stands in the place of validation
+  abbrev pub plain_numbered : Named (Func B A P) → ℕ → Option P
+  plain_numbered fs number = option_and_then plain_of (numbered fs number)
+
   -- the kind of the function of this name, where there is one
   abbrev pub kind_named : Named (Func B A P) → List ℕ → Option FuncKind
   kind_named fs name = option_map kind_of (named fs name)
