@@ -1,5 +1,5 @@
 -- What the shipped functions do.
-use Rattle.std.specs.Prelude.{ℕ, ◌%◌, ◌==◌, if◌then◌else◌, List, map, codes, Option, Some, None, Result, Ok, Err, pos, int_lt, unsigned_abs}
+use Rattle.std.specs.Prelude.{ℕ, ℤ, Bool, ◌%◌, ◌==◌, if◌then◌else◌, List, map, codes, Option, Some, None, Result, Ok, Err, pos, int_lt, unsigned_abs}
 use Rattle.std.specs.List.{slice_split}
 use Rattle.std.specs.Char.{to_ascii_uppercase}
 use Rattle.std.specs.Str.{trim}
@@ -7,7 +7,8 @@ use Rattle.hex.specs.declared.FromHexError.{FromHexError}
 use Rattle.hex.specs.Hex.{decode_of}
 use Rattle.pv_tree.specs.declared.Tree.{Tree, out-Tree}
 use Rattle.pv_tree.specs.declared.Tree.TheVariants as tree
-use Rattle.pv_tree.specs.declared.Value.{Value, out-Value}
+use Rattle.pv_tree.specs.declared.Value.{Value}
+use Rattle.pv_tree.specs.declared.Value.TheViews.{out-Value}
 use Rattle.pv_tree.specs.declared.Value.TheOpen.{Value-F}
 use Rattle.pv_tree.specs.declared.Value.TheVariants as value
 use Rattle.pv_tree.specs.Parts.{text_at}
@@ -38,42 +39,55 @@ split_commas t =
     (of_text t (λ text. tree.Array (map tree.Str (slice_split (λ b. b == comma) text)))
     (text_at (out-Tree t)))
 
--- an even whole number as it is, and nothing else
-abbrev pub even_at : Value → Value-F Value → Made
-even_at v (Value-F.Int n) =
-    if unsigned_abs n % 2 == 0 then made.Give v
-    else made.Raise (raise.Value (codes "not even"))
-even_at v other = made.Raise (raise.Value (codes "not even"))
+-- the whole number that a level of a value is
+abbrev pub int_at : {X : Type 0} → Value-F X → Option ℤ
+int_at (Value-F.Int n) = Some n
+int_at v = None
 
--- by the value's level
+-- a whole number that passes a test as it is, and nothing else
+abbrev pub int_that : (ℤ → Bool) → Raise → Option ℤ → Made
+int_that test wrong None = made.Raise wrong
+int_that test wrong (Some n) = if test n then made.Give (value.Int n) else made.Raise wrong
+
+-- twice another one
+abbrev pub is_even : ℤ → Bool
+is_even n = unsigned_abs n % 2 == 0
+
+-- above 0
+abbrev pub is_positive : ℤ → Bool
+is_positive n = int_lt (pos 0) n
+
+-- an even whole number as it is, and nothing else
 abbrev pub even : Value → Made
-even v = even_at v (out-Value v)
+even v = int_that is_even (raise.Value (codes "not even")) (int_at (out-Value v))
 
 -- a whole number above 0 as it is, and nothing else
-abbrev pub positive_at : Value → Value-F Value → Made
-positive_at v (Value-F.Int n) =
-    if int_lt (pos 0) n then made.Give v
-    else made.Raise (raise.Assertion (codes "not positive"))
-positive_at v other = made.Raise (raise.Assertion (codes "not positive"))
-
--- by the value's level
 abbrev pub positive : Value → Made
-positive v = positive_at v (out-Value v)
+positive v = int_that is_positive (raise.Assertion (codes "not positive")) (int_at (out-Value v))
+
+-- what any tree but a string is told
+abbrev pub not_text : Made
+not_text = made.Raise (raise.Custom (codes "not_text") (codes "A text is wanted"))
 
 -- a string with its ASCII letters in upper case, and nothing else
 abbrev pub upper : Tree → Made
 upper t =
-    of_text (made.Raise (raise.Custom (codes "not_text") (codes "A text is wanted")))
-    (λ text. made.Give (value.Str (map to_ascii_uppercase text))) (text_at (out-Tree t))
+    of_text not_text (λ text. made.Give (value.Str (map to_ascii_uppercase text)))
+    (text_at (out-Tree t))
 
--- bytes as a value
+-- what all is told but a string of an even number of hexadecimal digits
+abbrev pub not_hexadecimal : Made
+not_hexadecimal = made.Raise (raise.Value (codes "not hexadecimal"))
+
+-- the bytes of digits as a value
 abbrev pub bytes_or_raise : Result (List ℕ) FromHexError → Made
 bytes_or_raise (Ok bytes) = made.Give (value.Bytes bytes)
-bytes_or_raise (Err fault) = made.Raise (raise.Value (codes "not hexadecimal"))
+bytes_or_raise (Err fault) = not_hexadecimal
 
--- a string of an even number of hexadecimal digits as the bytes that they stand for, and nothing
--- else
+-- an even number of hexadecimal digits, of either case, as the bytes that they stand for
+abbrev pub decoded : List ℕ → Made
+decoded text = bytes_or_raise (decode_of text)
+
+-- the same of a string, and nothing else
 abbrev pub unhex : Tree → Made
-unhex t =
-    of_text (made.Raise (raise.Value (codes "not hexadecimal")))
-    (λ text. bytes_or_raise (decode_of text)) (text_at (out-Tree t))
+unhex t = of_text not_hexadecimal decoded (text_at (out-Tree t))

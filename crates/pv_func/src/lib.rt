@@ -13,7 +13,7 @@ pub mod shipped;
 pub use after::AfterFn;
 pub use before::BeforeFn;
 pub use func::{Func, FuncId, FuncKind};
-//pub use objects::Objects;
+pub use objects::Objects;
 pub use plain::PlainFn;
 pub use raise::{Made, Raise, Raw};
 pub use registry::{AddFault, Registry};
