@@ -1,6 +1,5 @@
 ghost use Rattle.std.specs.Prelude.{◌≡◌, ◌==◌, map, IfOk};
 ghost use Rattle.std.specs.List.{slice_split};
-ghost use Rattle.pv_tree.specs.declared.Tree.TheVariants as tree;
 ghost use Rattle.pv_func.specs.Shipped as spec;
 ghost use Rattle.pv_func.specs.Shipped.{comma};
 
@@ -15,7 +14,7 @@ use std::alloc::Global;
 pub struct SplitCommas;
 
 fn parts(alloc: Global, text: &Text) -> Result<Vec<Tree>, Memory>
-    ensures { IfOk result (λ all. all.items ≡ map tree.Str (slice_split (λ b. b == comma) text.now)) }
+    ensures { IfOk result (λ all. all.items ≡ map Tree.Str (slice_split (λ b. b == comma) text.now)) }
 {
     let mut all = Vec::new(alloc);
     for part in text.as_str().split(',') {
@@ -27,6 +26,7 @@ fn parts(alloc: Global, text: &Text) -> Result<Vec<Tree>, Memory>
 impl BeforeFn for SplitCommas {
     ghost before = { λ s. spec.split_commas };
 
+    #[tactic(auto, using(pv_notation::proofs::TreeNumbers::tree_numbers, crate::proofs::Parts::strings_have_numbers))]
     fn call(&self, alloc: Global, input: &Tree) -> Result<Raw, Memory> {
         match input.as_text() {
             Some(text) => Ok(Raw::Give(Tree::array(alloc, parts(alloc, text)?)?)),

@@ -27,6 +27,7 @@ fn trimmed(alloc: Global, text: &Text) -> Result<Text, Memory>
 impl BeforeFn for Strip {
     ghost before = { λ s. spec.strip };
 
+    #[tactic(auto, using(pv_notation::proofs::TreeNumbers::tree_numbers))]
     fn call(&self, alloc: Global, input: &Tree) -> Result<Raw, Memory> {
         match input.as_text() {
             Some(text) => Ok(Raw::Give(Tree::Str(trimmed(alloc, text)?))),

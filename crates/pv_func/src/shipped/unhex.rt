@@ -15,10 +15,7 @@ pub struct Unhex;
 fn not_hexadecimal(alloc: Global) -> Result<Made, Memory>
     ensures { IfOk result (λ made. made ≡ spec.not_hexadecimal) }
 {
-    Ok(Made::Raise(Raise::Value(Text::from_str(
-        alloc,
-        "not hexadecimal",
-    )?)))
+    Ok(Made::Raise(Raise::Value(Text::from_str(alloc, "not hexadecimal")?)))
 }
 
 fn decoded(alloc: Global, text: &Text) -> Result<Made, Memory>

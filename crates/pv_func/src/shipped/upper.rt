@@ -32,6 +32,7 @@ fn not_text(alloc: Global) -> Result<Made, Memory>
 impl PlainFn for Upper {
     ghost plain = { λ s. spec.upper };
 
+    #[tactic(auto, using(pv_notation::proofs::Sound::soundness))]
     fn call(&self, alloc: Global, input: &Tree) -> Result<Made, Memory> {
         match input.as_text() {
             Some(text) => Ok(Made::Give(Value::Str(in_upper_case(alloc, text)?))),
