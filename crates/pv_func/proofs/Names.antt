@@ -1,16 +1,17 @@
 -- The function of a name stands at the place of the name.
-use Rattle.std.proofs.Common.{◌≡◌, ℕ, zero, suc, ◌+◌, ◌-◌, ◌<◌, ◌≤◌, Bool, true, false, cond, List, [], ◌∷◌, ◌++◌, length, take, get_or, refl, sym, ap, ◌∙◌, arith}
+use Rattle.std.proofs.Common.{◌≡◌, ℕ, zero, suc, ◌+◌, ◌-◌, ◌<◌, ◌≤◌, Bool, true, false, cond, List, [], ◌∷◌, ◌++◌, length, take, get_or, refl, sym, ap, ◌∙◌, subst, arith}
 use Rattle.std.specs.Prelude.{Option, None, Some, Result, Err, bytes_eq}
 use Rattle.std.specs.Result.{MatchResult}
 use Rattle.std.specs.List.{position_from}
-use Rattle.std.specs.BTreeMap.{BTreeMap, is_at}
+use Rattle.std.specs.BTreeMap.{BTreeMap, Updates, is_at}
 use Rattle.std.specs.Map.{lookup}
 use Rattle.pv_tree.specs.Merging.{place_of, name_cmp, IsIndex}
+use Rattle.pv_tree.proofs.Merges.{index_inserted}
 use Rattle.pv_func.specs.declared.func.FuncId.{FuncId}
 use Rattle.pv_func.specs.declared.registry.AddFault.{AddFault}
 use Rattle.pv_func.specs.declared.registry.AddFault.TheVariants.{NameTaken, Memory}
 use Rattle.pv_func.specs.Adding.{AddGives}
-use Rattle.pv_func.specs.Functions.{named}
+use Rattle.pv_func.specs.Functions.{named, numbered}
 
 module _ {X : Type 0} where
   -- the place of the first of this name, counted from `i`
@@ -22,6 +23,7 @@ module _ {X : Type 0} where
     from : i ≤ n
     below : n < i + length fs
     is : (d : List ℕ × X) → named fs name ≡ Some (get_or fs (n - i) d).1
+    has : named fs name ≡ numbered fs (n - i)
 
   found_by : (b : Bool) (i n : ℕ) (f : List ℕ × X) (fs : List (List ℕ × X)) (name : List ℕ) → bytes_eq name f.0 ≡ b
       → (place_from (i + 1) fs name ≡ Some n → StandsAt fs name (i + 1) n)
@@ -33,6 +35,7 @@ module _ {X : Type 0} where
         from = omega arith;
         below = omega arith;
         is = λ d. ap (λ b. cond b (Some f.1) (named fs name)) e ∙ ap (λ j. Some (get_or (f ∷ fs) j d).1) none;
+        has = ap (λ b. cond b (Some f.1) (named fs name)) e ∙ ap (λ j. numbered (f ∷ fs) j) none;
       }
   found_by false i n f fs name e rest h =
       let r : StandsAt fs name (i + 1) n = rest h in
@@ -43,6 +46,7 @@ module _ {X : Type 0} where
         from = omega arith;
         below = omega arith;
         is = λ d. ap (λ b. cond b (Some f.1) (named fs name)) e ∙ r.is d ∙ ap (λ j. Some (get_or (f ∷ fs) j d).1) next;
+        has = ap (λ b. cond b (Some f.1) (named fs name)) e ∙ r.has ∙ ap (λ j. numbered (f ∷ fs) j) next;
       }
 
   found_from : (i n : ℕ) (fs : List (List ℕ × X)) (name : List ℕ) → place_from i fs name ≡ Some n → StandsAt fs name i n
@@ -55,6 +59,9 @@ module _ {X : Type 0} where
   pub named_found : (fs : List (List ℕ × X)) (name : List ℕ) (n : ℕ) (d : List ℕ × X) → place_of fs name ≡ Some n
       → named fs name ≡ Some (get_or fs n d).1
   named_found fs name n d h = let whole : n - 0 ≡ n = omega arith in (found_from 0 n fs name h).is d ∙ ap (λ j. Some (get_or fs j d).1) whole
+
+  pub named_numbered : (fs : List (List ℕ × X)) (name : List ℕ) (n : ℕ) → place_of fs name ≡ Some n → named fs name ≡ numbered fs n
+  named_numbered fs name n h = let whole : n - 0 ≡ n = omega arith in (found_from 0 n fs name h).has ∙ ap (λ j. numbered fs j) whole
 
   missing_by : (b : Bool) (i : ℕ) (f : List ℕ × X) (fs : List (List ℕ × X)) (name : List ℕ)
       → (place_from (i + 1) fs name ≡ None → named fs name ≡ None)
@@ -88,10 +95,16 @@ module _ {X : Type 0} where
   index_unchanged numbers after fs gs index e f = λ name.
       ap (λ es. lookup (is_at (name_cmp name)) es) e ∙ index name ∙ ap (λ xs. place_of xs name) (sym f)
 
--- a list that was one longer is cut back
-pub cut_back : {X : Type 0} → (xs : List X) (x : X) (n : ℕ) → n ≡ length xs → take n (xs ++ x ∷ []) ≡ xs
-cut_back {X = X} xs x n e = ap (λ k. take k (xs ++ x ∷ [])) e ∙ back xs
+  -- the index of a list with one more behind it
+  pub index_appended : (numbers after : BTreeMap (List ℕ) ℕ) (fs gs : List (List ℕ × X)) (name key : List ℕ) (f : X) (n : ℕ) → IsIndex numbers fs
+      → place_of fs name ≡ None → key ≡ name → n ≡ length fs → Updates name_cmp numbers after key (Some n) → gs ≡ fs ++ (name, f) ∷ [] → IsIndex after gs
+  index_appended numbers after fs gs name key f n index none same last updates e =
+      subst (IsIndex after) (sym e) (index_inserted numbers after fs name key f n index none same last updates)
+
+-- a list that was made one longer, and cut back
+pub cut_back : {X : Type 0} → (xs ys zs : List X) (x : X) (n : ℕ) → n ≡ length xs → ys ≡ xs ++ x ∷ [] → zs ≡ take n ys → zs ≡ xs
+cut_back {X = X} xs ys zs x n e f g = g ∙ ap (take n) f ∙ ap (λ k. take k (xs ++ x ∷ [])) e ∙ back xs
   where
-    back : (ys : List X) → take (length ys) (ys ++ x ∷ []) ≡ ys
+    back : (vs : List X) → take (length vs) (vs ++ x ∷ []) ≡ vs
     back [] = refl
-    back (y ∷ ys) = ap (λ zs. y ∷ zs) (back ys)
+    back (v ∷ vs) = ap (λ ws. v ∷ ws) (back vs)

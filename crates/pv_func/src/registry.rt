@@ -64,7 +64,7 @@ impl<B, A, P> Model for Registry<B, A, P> {
 
 impl<B, A, P> Registry<B, A, P> {
     ghost use Rattle.std.specs.Prelude.{◌≡◌, ◌<◌, [], length, Some, option_map, IfSome};
-    ghost use Rattle.std.specs.Option.{option_copied};
+    ghost use Rattle.std.specs.Option.{option_copied, option_and_then};
     ghost use Rattle.pv_tree.specs.Merging.{place_of};
     ghost use Rattle.pv_func.specs.Functions.{kind_of, named, numbered};
 
@@ -85,10 +85,11 @@ impl<B, A, P> Registry<B, A, P> {
     }
 
     /// The number of the function of this name.
-    #[tactic(auto, using(crate::proofs::Names::place_within))]
+    #[tactic(auto, using(crate::proofs::Names::place_within, crate::proofs::Names::named_numbered, crate::proofs::Names::named_missing))]
     pub fn find(&self, name: &Text) -> Option<FuncId>
         ensures place { option_map (λ id. id.number) result ≡ place_of self.now name.now }
         ensures within { IfSome result (λ id. id.number < length self.now) }
+        ensures found { named self.now name.now ≡ option_and_then (λ id. numbered self.now id.number) result }
     {
         let number = self.number(name)?;
         Some(FuncId { number })
@@ -105,8 +106,7 @@ impl<B, A, P> Registry<B, A, P> {
         }
     }
 
-    /// The function of this number.
-    pub fn function(&self, id: FuncId) -> &Func<B, A, P>
+    fn function(&self, id: FuncId) -> &Func<B, A, P>
         requires { id.number < length self.now }
         ensures { numbered self.now id.number ≡ Some result.now }
     {

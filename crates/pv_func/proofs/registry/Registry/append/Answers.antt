@@ -1,7 +1,6 @@
-use Rattle.std.proofs.Common.{rules, ◌≡◌, ◌∷◌, [], ◌++◌, ◌∙◌, length, take, None, refl, sym, ap, subst}
-use Rattle.pv_tree.specs.Merging.{place_of, IsIndex}
-use Rattle.pv_tree.proofs.Merges.{index_inserted}
-use Rattle.pv_func.proofs.Names.{index_unchanged, cut_back}
+use Rattle.std.proofs.Common.{rules, ◌≡◌, ◌∷◌, [], ◌++◌, ◌∙◌, length, None, refl, sym, ap, subst}
+use Rattle.pv_tree.specs.Merging.{place_of}
+use Rattle.pv_func.proofs.Names.{index_unchanged, index_appended, cut_back}
 use Rattle.pv_func.proofs.registry.Registry.append.Goals.{in-Ok, in-Err}
 use Rattle.pv_func.proofs.registry.Registry.append.Goals as goal
 
@@ -13,16 +12,15 @@ pub invariant_of-self-in-Ok : goal.invariant_of-self-in-Ok
 invariant_of-self-in-Ok g c =
     let none : place_of c.self.inside.functions.items c.args.name ≡ None = subst (λ xs. place_of xs c.args.name ≡ None) (sym c.self.view_is) c.requires in
     let last : c.len-number.result ≡ length c.self.inside.functions.items = search rules in
-    subst (IsIndex c.insert.new.self) (sym c.in_ok-push.ensures.items)
-    (index_inserted c.self.inside.numbers c.insert.new.self c.self.inside.functions.items c.args.name c.in_ok-key.key c.args.function c.len-number.result
-    c.self.invariant none c.in_ok-key.ensures last c.in-Ok.ensures.updates)
+    index_appended c.self.inside.numbers c.insert.new.self c.self.inside.functions.items c.push.new.self.items c.args.name c.in_ok-key.key c.args.function
+    c.len-number.result c.self.invariant none c.in_ok-key.ensures last c.in-Ok.ensures.updates c.in_ok-push.ensures.items
 
 pub invariant_of-self-in-Err : goal.invariant_of-self-in-Err
 invariant_of-self-in-Err g c =
     let last : c.len-number.result ≡ length c.self.inside.functions.items = search rules in
     index_unchanged c.self.inside.numbers c.insert.new.self c.self.inside.functions.items c.truncate.new.self.items c.self.invariant c.in-Err.ensures.err
-    (c.truncate.ensures.items ∙ ap (λ xs. take c.len-number.result xs) c.in_ok-push.ensures.items
-    ∙ cut_back c.self.inside.functions.items (c.args.name, c.args.function) c.len-number.result last)
+    (cut_back c.self.inside.functions.items c.push.new.self.items c.truncate.new.self.items (c.args.name, c.args.function) c.len-number.result last
+    c.in_ok-push.ensures.items c.truncate.ensures.items)
 
 pub returns-clause-answer : goal.returns-clause-answer
 returns-clause-answer g c =
@@ -44,6 +42,8 @@ returns-clause-err g c =
     elim c.match-insert.branch [
       | in-Ok w ↦ rw w.result-is tt
       | in-Err w ↦ rw w.result-is
-          (w.self-is ∙ w.truncate.ensures.items ∙ ap (λ xs. take c.len-number.result xs) c.in_ok-push.ensures.items
-          ∙ cut_back c.self.inside.functions.items (c.args.name, c.args.function) c.len-number.result last ∙ c.self.view_is)
+        (w.self-is
+        ∙ cut_back c.self.inside.functions.items c.push.new.self.items w.truncate.new.self.items (c.args.name, c.args.function) c.len-number.result last
+        c.in_ok-push.ensures.items w.truncate.ensures.items
+        ∙ c.self.view_is)
     ]
