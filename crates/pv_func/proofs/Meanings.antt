@@ -8,8 +8,7 @@ use Rattle.pv_func.specs.declared.raise.Raw.{Raw}
 use Rattle.pv_func.specs.declared.raise.Made.{Made}
 use Rattle.pv_func.specs.declared.func.Func.{Func}
 use Rattle.pv_func.specs.declared.func.Func.TheVariants.{Before, After, Plain}
-use Rattle.pv_func.specs.declared.func.FuncKind.{FuncKind}
-use Rattle.pv_func.specs.Functions.{Named, Meaning, named, kind_of, kind_named, before_of, after_of, plain_of, before_named, after_named, plain_named, meaning_of, meanings}
+use Rattle.pv_func.specs.Functions.{Named, named, kind_of, kind_named, before_of, after_of, plain_of, before_named, after_named, plain_named, meaning_of, meanings}
 
 module _ {B A P : Type 0} (before : B → Tree → Raw) (after : A → Value → Made) (plain : P → Tree → Made) where
   found_by : (b : Bool) (f : Func B A P) (fs : Named (Func B A P)) (name : List ℕ)

@@ -42,8 +42,8 @@ returns-clause-err g c =
     elim c.match-insert.branch [
       | in-Ok w ↦ rw w.result-is tt
       | in-Err w ↦ rw w.result-is
-        (w.self-is
-        ∙ cut_back c.self.inside.functions.items c.push.new.self.items w.truncate.new.self.items (c.args.name, c.args.function) c.len-number.result last
-        c.in_ok-push.ensures.items w.truncate.ensures.items
-        ∙ c.self.view_is)
+          (w.self-is
+          ∙ cut_back c.self.inside.functions.items c.push.new.self.items w.truncate.new.self.items (c.args.name, c.args.function) c.len-number.result last
+          c.in_ok-push.ensures.items w.truncate.ensures.items
+          ∙ c.self.view_is)
     ]

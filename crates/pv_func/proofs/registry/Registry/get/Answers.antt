@@ -1,4 +1,4 @@
-use Rattle.std.proofs.Common.{◌≡◌, ◌∙◌, Some, get_or, sym, ap}
+use Rattle.std.proofs.Common.{◌∙◌, Some, get_or, sym, ap}
 use Rattle.pv_func.proofs.Names.{named_found, named_missing}
 use Rattle.pv_func.proofs.registry.Registry.get.Goals as goal
 
