@@ -37,20 +37,17 @@ module _ {B A P : Type 0} where
   -- the function, where it is one that sees a tree before it is validated
   abbrev pub before_of : Func B A P → Option B
   before_of (Before b) = Some b
-  before_of (After a) = None
-  before_of (Plain p) = None
+  before_of f = None
 
   -- the function, where it is one that sees the value that validation gives
   abbrev pub after_of : Func B A P → Option A
-  after_of (Before b) = None
   after_of (After a) = Some a
-  after_of (Plain p) = None
+  after_of f = None
 
   -- the function, where it is one that stands in the place of validation
   abbrev pub plain_of : Func B A P → Option P
-  plain_of (Before b) = None
-  plain_of (After a) = None
   plain_of (Plain p) = Some p
+  plain_of f = None
 
   -- the function of this number, where there is one and it sees trees before they are validated
   abbrev pub before_numbered : Named (Func B A P) → ℕ → Option B
