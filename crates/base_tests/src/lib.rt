@@ -13,6 +13,8 @@ mod files;
 #[cfg(test)]
 mod fixtures;
 #[cfg(test)]
+mod functions;
+#[cfg(test)]
 mod json;
 #[cfg(test)]
 mod machine;

@@ -1,0 +1,4 @@
+pub mod Names
+pub mod Meanings
+pub mod Parts
+pub mod Decoded

@@ -1,0 +1,4 @@
+pub mod Soundness
+pub mod Functions
+pub mod Adding
+pub mod Shipped
