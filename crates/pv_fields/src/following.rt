@@ -43,8 +43,8 @@ pub(crate) fn follow<'a>(steps: &[Step], tree: &'a Tree) -> Option<&'a Tree>
     Some(here)
 }
 
-#[tactic(auto, unfolding(crate::specs::Finding::found))]
 /// The first path whose steps all lead on.
+#[tactic(auto, unfolding(crate::specs::Finding::found))]
 pub(crate) fn first_found<'a>(paths: &[Loc], tree: &'a Tree) -> Found<'a>
     ensures { hit result ≡ spec.found paths.now tree.now }
 {
