@@ -77,6 +77,17 @@ overfull (Some files) name limit next before now over = by (file files name) ref
     by None e f = absurd f
     by (Some bytes) e f = inl (sym (of_overfull files name bytes limit next e f))
 
+-- what loading answers, which failed for this reason
+abbrev failed_by : LoadFault → Result (List ℕ) LoadFault
+failed_by f = Err f
+
+-- a file was not loaded, for this reason
+pub refusal_reply : (f : LoadFault) (held : Held) (name : List ℕ) (limit : ℕ) (next : List ℕ → Reads) (before now : ℕ) (a : Answer) → (failed_by f ≡ failed_by fault.Failed → LoadFails held name before now)
+    → (failed_by f ≡ failed_by fault.TooLarge → IsOverLimit held name limit) → IsRefusal name f a → Replies held (λ files. answer_of files (a_file name limit next)) before now a
+refusal_reply fault.Failed held name limit next before now a fails over is = subst (λ x. Replies held (λ files. answer_of files (a_file name limit next)) before now x) (sym is) (unread held name limit next before now (fails refl))
+refusal_reply fault.TooLarge held name limit next before now a fails over is = subst (λ x. Replies held (λ files. answer_of files (a_file name limit next)) before now x) (sym is) (overfull held name limit next before now (over refl))
+refusal_reply fault.Memory held name limit next before now a fails over is = absurd is
+
 -- ---- the line of a file that was not loaded
 
 -- it tells of that file, wherever it stands among those that are read

@@ -1,0 +1,4 @@
+use Rattle.pv_cli.proofs.working.answer_command.Goals as goal
+
+pub returns-in-Validate-clause-reply : goal.returns-in-Validate-clause-reply
+returns-in-Validate-clause-reply g c = rw c.in-Validate.is c.answer_files.ensures.reply
