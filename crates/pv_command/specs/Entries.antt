@@ -98,7 +98,8 @@ IsFound (Some e) (Some r) = IsEntry e r
 -- what the option of this name asks for, where the table has it
 abbrev pub setting_named : List OptionEntry → List ℕ → Option Setting
 setting_named [] word = None
-setting_named (e ∷ es) word = if bytes_eq word e.name.now then Some e.asks else setting_named es word
+setting_named (e ∷ es) word =
+    if bytes_eq word e.name.now then Some e.asks else setting_named es word
 
 -- whether a word can stand as an operand of this kind behind others
 abbrev pub fits : Operand → List (List ℕ) → List ℕ → Bool
