@@ -61,7 +61,7 @@ impl KeptEntries {
     }
 
     /// Keeps the successes of the next member's key and value, where there are `mark` errors, as before the first
-    /// member.
+    /// member. Once there are more, nothing changes.
     pub fn take(
         &mut self,
         mark: usize,
@@ -69,7 +69,8 @@ impl KeptEntries {
         key: Option<Good>,
         value: Option<Good>,
     ) -> Result<(), Memory>
-        ensures { OnOk result (errors ≡ mark → self.new ≡ entry_kept self.old key value) }
+        ensures keeps { OnOk result (errors ≡ mark → self.new ≡ entry_kept self.old key value) }
+        ensures unchanged { (errors ≡ mark → ⊥) → self.new ≡ self.old }
     {
         if errors != mark {
             return Ok(());

@@ -56,9 +56,11 @@ impl KeptItems {
         })
     }
 
-    /// Keeps the success of the next item, where there are `mark` errors, as before the first item.
+    /// Keeps the success of the next item, where there are `mark` errors, as before the first item. Once there
+    /// are more, nothing changes.
     pub fn take(&mut self, mark: usize, errors: usize, found: Option<Good>) -> Result<(), Memory>
-        ensures { OnOk result (errors ≡ mark → self.new ≡ item_kept self.old found) }
+        ensures keeps { OnOk result (errors ≡ mark → self.new ≡ item_kept self.old found) }
+        ensures unchanged { (errors ≡ mark → ⊥) → self.new ≡ self.old }
     {
         if errors != mark {
             return Ok(());

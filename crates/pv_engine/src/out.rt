@@ -50,27 +50,6 @@ impl<'a> Out<'a> {
         }
     }
 
-    /// Adds the errors of an outcome, and gives its success.
-    pub(crate) fn put(&mut self, outcome: Outcome) -> Result<Option<Good>, Memory>
-        ensures { Walks self.old self.new result outcome }
-    {
-        match outcome {
-            Outcome::Good {
-                value,
-                grade,
-                fields,
-            } => Ok(Some(Good {
-                value,
-                grade,
-                fields,
-            })),
-            Outcome::Bad(faults) => {
-                self.errors.append_under(&self.path, faults)?;
-                Ok(None)
-            }
-        }
-    }
-
     /// Adds one error. It stays out of the frames of the recursion.
     #[inline(never)]
     pub(crate) fn fail(

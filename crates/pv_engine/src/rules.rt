@@ -14,7 +14,7 @@ use pv_collect::type_error;
 use pv_fault::{Good, Grade, Kind};
 use pv_plan::{Op, Record};
 use pv_rules::{Collection, GatherRule};
-use pv_scalar::{Scalar, scalar};
+use pv_scalar::{Scalar, scalar_answer};
 use pv_text::Memory;
 use pv_tree::{Tree, Value};
 
@@ -126,8 +126,9 @@ impl<
         self.first(out, children, tree)
     }
 
-    /// A value without parts. Its outcome stays out of the frames of the recursion.
+    /// A value without parts. Its answer stays out of the frames of the recursion.
     #[inline(never)]
+    #[tactic(auto, unfolding(pv_scalar::specs::Scalars::scalar_of))]
     fn scalar_node(
         &self,
         out: &mut Out<'a>,
@@ -137,8 +138,14 @@ impl<
     ) -> Result<Option<Good>, Memory>
         ensures { Walks out.old out.new result (scalar_of rule.now.0 rule.now.1 strict tree.now) }
     {
-        let outcome = scalar(self.scene.alloc, &mut out.matchers, rule, strict, tree)?;
-        out.put(outcome)
+        match scalar_answer(self.scene.alloc, &mut out.matchers, rule, strict, tree)? {
+            Ok((value, grade)) => Ok(Some(Good {
+                value,
+                grade,
+                fields: None,
+            })),
+            Err(kind) => out.fail(self.scene.alloc, kind, tree),
+        }
     }
 
     fn strictness(&self, slot: &Record) -> bool

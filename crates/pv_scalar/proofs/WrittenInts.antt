@@ -1,5 +1,5 @@
 -- Numbers that are written as integers of 128 bits.
-use Rattle.std.proofs.Common.{◌≡◌, ℕ, Bool, true, false, List, ℤ, Option, Some, None, Result, Ok, Err, refl, ap, sym, ◌∙◌}
+use Rattle.std.proofs.Common.{◌≡◌, ℕ, Bool, true, false, List, ℤ, Some, Ok, refl, ap, sym, ◌∙◌}
 use Rattle.std.proofs.lemmas.Option.{none-some}
 use Rattle.pv_number.specs.ExactNumber.{is_integer}
 use Rattle.pv_number.specs.WrittenIntegers.{integer}
@@ -7,7 +7,7 @@ use Rattle.pv_number.specs.declared.Whole.TheVariants.{Fits}
 use Rattle.pv_number.proofs.WrittenIntegers.{integer_whole, unwritten}
 use Rattle.pv_numeric.specs.WholeNumbers.{whole_of}
 use Rattle.pv_numeric.proofs.Wholes.{whole_of_is_whole}
-use Rattle.pv_fault.specs.declared.Grade.TheVariants.{Lax, Exact}
+use Rattle.pv_fault.specs.declared.Grade.TheVariants.{Exact}
 use Rattle.pv_scalar.specs.Integers.{number_int, whole_int}
 
 written : (lexeme : List ℕ) (n : ℤ) (b : Bool) → is_integer lexeme ≡ b → integer lexeme ≡ Some n → b ≡ true

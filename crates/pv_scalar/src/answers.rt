@@ -8,7 +8,8 @@ use pv_text::Memory;
 use pv_tree::{Tree, Value};
 use std::alloc::Global;
 
-pub(crate) type Graded<T> = Result<(T, Grade), Kind>;
+/// A value with its grade, or what is wrong.
+pub type Graded<T> = Result<(T, Grade), Kind>;
 
 /// The value, unless something is wrong.
 pub(crate) fn with_fault(fault: Option<Kind>, value: Value, grade: Grade) -> Graded<Value>

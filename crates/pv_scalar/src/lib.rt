@@ -16,7 +16,8 @@ mod texts;
 mod validation;
 mod values;
 
+pub use answers::Graded;
 pub use built::Scalar;
 pub use laws::{ints_of_texts_are_numerals, strict_ints_are_written};
 pub use pv_formats::{Matchers, Pattern, PatternFault, compile_pattern};
-pub use validation::scalar;
+pub use validation::{scalar, scalar_answer};

@@ -92,8 +92,21 @@ fn answer<'a>(
     }
 }
 
-/// What the scalar gives for a tree: a value with its grade, or one error at the tree itself. Under
-/// `strict`, trees of other kinds do not stand for flags, ints and members.
+/// What the scalar gives for a tree: a value with its grade, or what is wrong. Under `strict`, trees
+/// of other kinds do not stand for flags, ints and members.
+pub fn scalar_answer<'a>(
+    alloc: Global,
+    matchers: &mut Matchers<'a>,
+    s: &'a Scalar,
+    strict: bool,
+    t: &Tree,
+) -> Result<Graded<Value>, Memory>
+    ensures { IfOk result (λ a. a ≡ spec.answer_of s.now.0 s.now.1 strict t.now) }
+{
+    answer(alloc, matchers, &s.body, &s.settings, strict, t)
+}
+
+/// The same as an outcome: the value, or one error at the tree itself.
 #[tactic(auto, unfolding(crate::specs::Scalars::scalar_of))]
 pub fn scalar<'a>(
     alloc: Global,
@@ -104,6 +117,6 @@ pub fn scalar<'a>(
 ) -> Result<Outcome, Memory>
     ensures { IfOk result (λ o. o ≡ spec.scalar_of s.now.0 s.now.1 strict t.now) }
 {
-    let answer = answer(alloc, matchers, &s.body, &s.settings, strict, t)?;
+    let answer = scalar_answer(alloc, matchers, s, strict, t)?;
     outcome(alloc, answer, t)
 }

@@ -11,7 +11,7 @@ loop-name-init g c = pairs_start _ _ _ c.in_ok-kept.ensures
 pub loop-name-preserved : goal.loop-name-preserved
 loop-name-preserved g c =
     members_next (first (map (below c.args.self.now) c.args.children.now)) (second (map (below c.args.self.now) c.args.children.now)) c.args.members.now c.loop-name.name-index c.loop-name-item.result _ _ _ _ _ _ _ _
-    (omega arith) c.loop-name-item.is c.loop-name.invariant c.in_ok-key.ensures (λ e. c.in_ok-take.ensures (c.len.ensures ∙ e ∙ sym c.len-mark.ensures))
+    (omega arith) c.loop-name-item.is c.loop-name.invariant c.in_ok-key.ensures (λ e. c.in_ok-take.ensures.keeps (c.len.ensures ∙ e ∙ sym c.len-mark.ensures))
 
 pub returns : goal.returns
 returns g c = c.finish_entries.ensures _ _ (members_all (first (map (below c.args.self.now) c.args.children.now)) (second (map (below c.args.self.now) c.args.children.now)) c.args.members.now c.loop-name.name-index _ _ _ _ c.loop-name-test.false c.loop-name.invariant) c.len-mark.ensures

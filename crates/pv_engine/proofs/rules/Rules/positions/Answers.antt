@@ -18,7 +18,7 @@ loop-place-preserved g c =
     placed_next c.args.rule.now.kind (below c.args.self.now) c.args.children.now (takers c.args.rule.now (length c.args.items.now)) c.args.items.now
     c.loop-place.place c.index-items-place.result c.children_from-takers.result.now
     (omega arith) c.index-items-place.is c.children_from-takers.ensures _ _ _ _ _ _ (full_list _ _ c.is_empty.ensures c.if-is_empty.false) c.loop-place.invariant
-    c.in_ok-found.ensures (λ e. c.in_ok-take.ensures (c.len.ensures ∙ e ∙ sym c.len-mark.ensures))
+    c.in_ok-found.ensures (λ e. c.in_ok-take.ensures.keeps (c.len.ensures ∙ e ∙ sym c.len-mark.ensures))
 
 pub returns : goal.returns
 returns g c =
