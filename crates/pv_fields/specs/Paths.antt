@@ -1,5 +1,5 @@
 -- The paths of a field: where its value is looked for, and where its errors stand.
-use Rattle.std.specs.Prelude.{ℕ, Bool, true, false, List, [], ◌∷◌, ◌++◌, if◌then◌else◌, slice_get, Option, None, Some}
+use Rattle.std.specs.Prelude.{ℕ, Bool, true, false, ◌||◌, List, [], ◌∷◌, ◌++◌, if◌then◌else◌, slice_get, Option, None, Some}
 use Rattle.pv_tree.specs.declared.Step.{Step}
 use Rattle.pv_tree.specs.declared.Step.TheVariants.{Name}
 use Rattle.pv_rules.specs.declared.AliasRule.{AliasRule}
@@ -12,19 +12,24 @@ use Rattle.pv_rules.specs.declared.Settings.{Settings}
 abbrev pub named : List ℕ → List Step
 named name = Name name ∷ []
 
--- the name as one more path, where names are read too
-abbrev pub also_named : Bool → List ℕ → List (List Step)
-also_named by_name name = if by_name then named name ∷ [] else []
+-- the settings read fields by their names too
+abbrev pub reads_by_name : Settings → Bool
+reads_by_name s = s.populate_by_name || s.validate_by_name
+
+-- these paths, where they count
+abbrev pub paths_if : Bool → List (List Step) → List (List Step)
+paths_if counts paths = if counts then paths else []
 
 -- by the alias of the field, where it has one
-abbrev pub paths_by : Bool → List ℕ → Option AliasRule → List (List Step)
-paths_by by_name name None = named name ∷ []
-paths_by by_name name (Some alias) = alias.paths ++ also_named by_name name
+abbrev pub paths_by : Settings → List ℕ → Option AliasRule → List (List Step)
+paths_by s name None = named name ∷ []
+paths_by s name (Some alias) =
+    paths_if s.validate_by_alias alias.paths ++ paths_if (reads_by_name s) (named name ∷ [])
 
--- The paths of a field, in their order: those of its alias, and then its name where the settings
--- read by name; of a field without an alias its name alone.
+-- The paths of a field, in their order: of one without an alias its name alone, else those of the
+-- alias where the settings read by alias, and then the name where they read by name.
 abbrev pub paths_of : Settings → FieldRule → List (List Step)
-paths_of s f = paths_by s.populate_by_name f.name f.validation_alias
+paths_of s f = paths_by s f.name f.validation_alias
 
 -- the path, where there is one, else the name
 abbrev pub path_or_name : List ℕ → Option (List Step) → List Step

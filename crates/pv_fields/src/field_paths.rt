@@ -44,20 +44,38 @@ fn one_path(alloc: Global, name: &Text) -> Result<Vec<Loc>, Memory>
     Ok(all)
 }
 
+/// Whether fields are looked for under their names too.
+fn reads_by_name(settings: &Settings) -> bool
+    ensures { result ≡ spec.reads_by_name settings.now }
+{
+    settings.populate_by_name || settings.validate_by_name
+}
+
+/// The paths of an alias, where the settings read by alias.
+fn alias_paths(alloc: Global, settings: &Settings, alias: &AliasRule) -> Result<Vec<Loc>, Memory>
+    ensures { IfOk result (λ all. all.items ≡ spec.paths_if settings.now.validate_by_alias alias.now.paths) }
+{
+    if settings.validate_by_alias {
+        copy_paths(alloc, alias.paths.as_slice())
+    } else {
+        Ok(Vec::new(alloc))
+    }
+}
+
 /// The paths of a field, by its alias where it has one.
 fn paths_by(
     alloc: Global,
-    by_name: bool,
+    settings: &Settings,
     name: &Text,
     alias: &Option<AliasRule>,
 ) -> Result<Vec<Loc>, Memory>
-    ensures { IfOk result (λ all. all.items ≡ spec.paths_by by_name name.now alias.now) }
+    ensures { IfOk result (λ all. all.items ≡ spec.paths_by settings.now name.now alias.now) }
 {
     let Some(alias) = alias else {
         return one_path(alloc, name);
     };
-    let mut all = copy_paths(alloc, alias.paths.as_slice())?;
-    if by_name {
+    let mut all = alias_paths(alloc, settings, alias)?;
+    if reads_by_name(settings) {
         all.push(named(alloc, name)?)?;
     }
     Ok(all)
@@ -66,12 +84,7 @@ fn paths_by(
 fn field_paths(alloc: Global, settings: &Settings, field: &FieldRule) -> Result<FieldPaths, Memory>
     ensures { IfOk result (λ paths. paths ≡ planned.field_paths settings.now field.now) }
 {
-    let paths = paths_by(
-        alloc,
-        settings.populate_by_name,
-        &field.name,
-        &field.validation_alias,
-    )?;
+    let paths = paths_by(alloc, settings, &field.name, &field.validation_alias)?;
     Ok(FieldPaths {
         paths: Items::from_vec(paths),
         named: named(alloc, &field.name)?,
