@@ -1,11 +1,13 @@
 //! Validation: what a schema means for a tree.
 #![tactic(auto)]
 
+mod defaults;
 mod dicts;
 mod finishing;
 mod hashing;
 mod laws;
 mod level;
+mod models;
 mod out;
 mod positions;
 mod rules;
