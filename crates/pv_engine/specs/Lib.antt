@@ -7,3 +7,4 @@ pub mod Walks
 pub mod Nests
 pub mod Going
 pub mod GoingFields
+pub mod Objects
