@@ -1,2 +1,5 @@
 pub mod Among
 pub mod Making
+pub mod Placing
+pub mod Reaching
+pub mod Marks

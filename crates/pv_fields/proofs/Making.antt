@@ -1,5 +1,5 @@
 -- What is made of all that is kept.
-use Rattle.std.proofs.Common.{◌≡◌, ℕ, List, length, ap, sym, ◌∙◌}
+use Rattle.std.proofs.Common.{◌≡◌, ℕ, List, length, ap, ◌∙◌}
 use Rattle.std.specs.Prelude.{Option, Some}
 use Rattle.pv_tree.specs.declared.Value.{Value}
 use Rattle.pv_rules.specs.declared.FieldsKind.{FieldsKind}

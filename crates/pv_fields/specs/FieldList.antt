@@ -1,7 +1,7 @@
 -- The outcome of a list of fields, from what came of each field and of each extra key.
 -- All errors come: those of the fields in the order of the fields, then those of the extra keys in
 -- the order of the input.
-use Rattle.std.specs.Prelude.{ℕ, List, [], ◌∷◌, ◌++◌, length, map, Option, None, Some}
+use Rattle.std.specs.Prelude.{ℕ, List, [], ◌∷◌, ◌++◌, length, map, Option, Some}
 use Rattle.std.specs.List.{flat_map}
 use Rattle.pv_tree.specs.declared.Step.TheVariants.{Name}
 use Rattle.pv_tree.specs.declared.Tree.{Tree}

@@ -1,5 +1,5 @@
 -- What is kept of fields and extra keys while none of them failed, and the value that it makes.
-use Rattle.std.specs.Prelude.{ℕ, Bool, true, false, List, [], ◌∷◌, ◌++◌, length, if◌then◌else◌, Option, None, Some}
+use Rattle.std.specs.Prelude.{ℕ, List, [], ◌∷◌, ◌++◌, length, Option, None, Some}
 use Rattle.std.specs.List.{flat_map}
 use Rattle.pv_tree.specs.declared.Value.{Value}
 use Rattle.pv_rules.specs.declared.FieldsKind.{FieldsKind}

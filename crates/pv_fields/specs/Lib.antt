@@ -3,3 +3,4 @@ pub mod Finding
 pub mod FieldList
 pub mod Kept
 pub mod Planned
+pub mod Directories

@@ -1,5 +1,9 @@
 //! All fields of an object at once, and its extra keys.
 
+ghost use Rattle.std.specs.Prelude.{◌≡◌};
+ghost use Rattle.pv_fields.specs.Planned.{marked};
+
+use crate::directory::Directory;
 use crate::found::Found;
 use crate::plan::FieldPlan;
 use pv_text::Memory;
@@ -49,16 +53,34 @@ impl<'a> Finds<'a> {
     }
 }
 
+/// A member is no longer extra.
+fn mark(extra: &mut Vec<bool>, member: Option<usize>)
+    ensures { extra.new.items ≡ marked extra.old.items member }
+{
+    if let Some(member) = member {
+        if let Some(flag) = extra.get_mut(member) {
+            *flag = false;
+        }
+    }
+}
+
 impl FieldPlan {
     ghost use Rattle.std.specs.Prelude.{◌≡◌, IfOk};
     ghost use Rattle.pv_fields.specs.Finding.{finds_of};
 
-    /// Finds all fields of an object and its extra keys.
+    /// Finds all fields of an object and its extra keys, in time in proportion to the number of both and, unless
+    /// they come in the same order, to its logarithm.
     pub fn find<'a>(&self, alloc: Global, input: &'a Tree) -> Result<Finds<'a>, Memory>
         ensures { IfOk result (λ finds. finds ≡ finds_of self.now.0 self.now.1 input.now) }
     {
-        let _ = alloc;
-        let _ = input;
-        Err(Memory)
+        let mut directory = Directory::new(input);
+        let mut fields = Vec::with_capacity(alloc, self.len())?;
+        let mut extra = vec![in alloc; true; directory.len()]?;
+        for own in self.paths.as_slice() {
+            let (found, member) = directory.first_found(alloc, own.paths.as_slice())?;
+            fields.push(found)?;
+            mark(&mut extra, member);
+        }
+        Ok(Finds { fields, extra })
     }
 }

@@ -2,6 +2,7 @@
 //! fields and extra keys make together.
 #![tactic(auto)]
 
+mod directory;
 mod field_paths;
 mod finding;
 mod following;
