@@ -102,13 +102,7 @@ impl<
             }
             ExtraBehavior::Allow => {
                 let found = self.allowed(out, object, name, value)?;
-                kept.extra(
-                    self.scene.alloc,
-                    object.mark,
-                    out.errors.len(),
-                    name,
-                    found,
-                )?;
+                kept.extra(self.scene.alloc, object.mark, out.errors.len(), name, found)?;
                 Ok(())
             }
         }

@@ -105,12 +105,7 @@ impl<
     {
         let len = out.path.len();
         out.enter(self.scene.alloc, place.as_slice())?;
-        let found = self.missing_value(
-            out,
-            stand_in.validates,
-            stand_in.children,
-            stand_in.tree,
-        )?;
+        let found = self.missing_value(out, stand_in.validates, stand_in.children, stand_in.tree)?;
         out.path.cut(len);
         Ok(found)
     }

@@ -3,11 +3,14 @@
 
 mod defaults;
 mod dicts;
+mod extras;
+mod fields;
 mod finishing;
 mod hashing;
 mod laws;
 mod level;
 mod models;
+mod object;
 mod out;
 mod positions;
 mod rules;

@@ -1,13 +1,13 @@
 //! What every step of a walk writes.
 
-ghost use Rattle.std.specs.Prelude.{◌≡◌, []};
+ghost use Rattle.std.specs.Prelude.{◌≡◌, [], ◌++◌, OnOk};
 ghost use Rattle.pv_fault.specs.Single.{one_error};
 ghost use Rattle.pv_engine.specs.Walks.{Walks, outcome_of};
 
 use pv_fault::{Faults, Good, Kind, Outcome};
 use pv_scalar::Matchers;
 use pv_text::Memory;
-use pv_tree::{Loc, Tree};
+use pv_tree::{Loc, Step, Tree};
 use std::alloc::Global;
 
 /// The errors so far, the steps from the root to where the walk stands, and the matchers that were made.
@@ -28,6 +28,17 @@ impl<'a> Out<'a> {
             path: Loc::new(alloc),
             matchers: Matchers::new(alloc),
         }
+    }
+
+    /// Adds steps at the end of the path.
+    pub(crate) fn enter(&mut self, alloc: Global, steps: &[Step]) -> Result<(), Memory>
+        ensures path { OnOk result (self.new.path ≡ self.old.path ++ steps.now) }
+        ensures errors { OnOk result (self.new.errors ≡ self.old.errors) }
+    {
+        for step in steps {
+            self.path.push(step.copy(alloc)?)?;
+        }
+        Ok(())
     }
 
     /// The outcome of a walk that began with nothing.

@@ -173,7 +173,7 @@ impl<
             Op::Scalar(rule) => self.scalar_node(out, rule, self.strictness(slot), tree),
             Op::Gather(rule) => self.collection(out, rule, children, tree),
             Op::Nullable => self.nullable(out, children, tree),
-            Op::Fields(_) => Err(Memory),
+            Op::Fields(plan) => self.fields(out, plan, children, tree),
             Op::Model { cls, root_model } => self.model(out, cls, *root_model, children, tree),
             Op::Default {
                 default,

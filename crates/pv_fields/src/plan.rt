@@ -3,7 +3,7 @@
 use crate::field_paths::{FieldPaths, all_field_paths};
 use crate::following::first_found;
 use crate::found::Found;
-use pv_rules::{ExtraBehavior, FieldRule, FieldsRule, Settings};
+use pv_rules::{ExtraBehavior, FieldRule, FieldsKind, FieldsRule, Settings};
 use pv_text::{Memory, Text};
 use pv_tree::{Loc, Members, Tree};
 use sqlite_items::Items;
@@ -63,6 +63,13 @@ impl FieldPlan {
             paths,
             names: names_of(alloc, rule.fields.as_slice())?,
         })
+    }
+
+    /// The kind of node that has the fields.
+    pub fn kind(&self) -> FieldsKind
+        ensures { result ≡ self.now.0.kind }
+    {
+        self.rule.kind
     }
 
     /// The number of fields.
