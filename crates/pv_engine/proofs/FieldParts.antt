@@ -126,7 +126,7 @@ sum_from a (n ∷ ns) =
     let two : fold ◌+◌ (0 + n) ns ≡ 0 + n + fold ◌+◌ 0 ns = sum_from (0 + n) ns in
     omega (arith, one, two)
 
-stop_front : (n s last : ℕ) → min (n + s) last ≡ min (0 + n + min s last) last
+stop_front : (n s last : ℕ) → min (0 + n + s) last ≡ min (0 + n + min s last) last
 stop_front n s last = omega arith
 
 front_sum : (n : ℕ) (ns : List ℕ) → stopped_sum (n ∷ ns) ≡ sum_of_two (Some n) (stopped_sum ns)

@@ -6,11 +6,14 @@ use Rattle.std.specs.Option.{option_map}
 use Rattle.std.proofs.Math.Seq.{take-append_seam}
 use Rattle.std.proofs.lemmas.Grind.{flat_map-append}
 use Rattle.std.proofs.lemmas.List.{take_more, take_all}
+use Rattle.std.proofs.lemmas.Option.{slice_get-map}
 use Rattle.std.proofs.lemmas.List.Elements.{filter-append}
 use Rattle.pv_text.specs.declared.Memory.{Memory}
 use Rattle.pv_tree.specs.declared.Step.{Step}
 use Rattle.pv_tree.specs.declared.Step.TheVariants.{Name}
 use Rattle.pv_tree.specs.declared.Tree.{Tree}
+use Rattle.pv_rules.specs.declared.ExtraBehavior.{ExtraBehavior}
+use Rattle.pv_rules.specs.declared.ExtraBehavior.TheVariants as behavior
 use Rattle.pv_rules.specs.declared.FieldRule.{FieldRule}
 use Rattle.pv_rules.specs.declared.FieldsRule.{FieldsRule}
 use Rattle.pv_rules.specs.declared.Settings.{Settings}
@@ -32,7 +35,7 @@ use Rattle.pv_fields.specs.Paths.{front_of, place_of}
 use Rattle.pv_engine.specs.declared.out.Out.{Out}
 use Rattle.pv_engine.specs.Walks.{Adds, Walked, Walks}
 use Rattle.pv_engine.specs.Rules.{Child}
-use Rattle.pv_engine.specs.Fields.{answer_of, unfound, answered, answers}
+use Rattle.pv_engine.specs.Fields.{answer_of, unfound, answered, answers, extra_child, extra_by}
 use Rattle.pv_engine.specs.GoingFields.{WalkedAt, GoingFields}
 use Rattle.pv_engine.proofs.Walking.{good_past, errors_past, adds_walked, adds_both, adds_same, none_added, same_length, walked_good, walked_bad}
 use Rattle.pv_engine.proofs.FieldParts.{flat_more, as_answered, as_extra, given_more, default_more, lacking_more, kept_more, forbidden_more, count_front}
@@ -76,6 +79,12 @@ walked_at old pushed new back steps n found o len path errors w cut kept = recor
 pub looked : {X Y : Type 0} (g : X → Y) (o : Option X) (x : X) (y : Y) → o ≡ Some x → option_map g o ≡ Some y → y ≡ g x
 looked g (Some z) x y e h = let same : z ≡ x = cc in let made : g z ≡ y = cc in sym made ∙ ap g same
 looked g None x y e h = cc
+
+-- what was found of the field at a place
+pub found_at : {X : Type 0} (g : FieldRule → X) (fields : List FieldRule) (i : ℕ) (f : FieldRule) (finds : List X) (x : X)
+    → slice_get fields i ≡ Some f → finds ≡ map g fields → slice_get finds i ≡ Some x → g f ≡ x
+found_at g fields i f finds x e all here =
+    sym (looked g (slice_get fields i) f x e (sym (ap (λ xs. slice_get xs i) all ∙ slice_get-map g fields i) ∙ here))
 
 module _ (start mid new : Out) (s : Settings) (t : Tree) (kept more : KeptParts) (fs : List Answered) (h : GoingFields start mid s t kept fs []) where
   field_next : (a : Answered) → Adds mid new (field_errors s t a)
@@ -198,6 +207,21 @@ pub answers_length : (s : Settings) (t : Tree) (cs : List Child) (ds : List (Opt
 answers_length s t cs ds i [] = refl
 answers_length s t cs ds i (f ∷ fs) = ap suc (answers_length s t cs ds (i + 1) fs)
 
+pub answers_next : (s : Settings) (t : Tree) (cs : List Child) (ds : List (Option Outcome)) (j : ℕ) (fs : List FieldRule) (f : FieldRule) → slice_get fs j ≡ Some f
+    → take (j + 1) (answers s t cs ds 0 fs) ≡ take j (answers s t cs ds 0 fs) ++ answered s t cs ds j f ∷ []
+answers_next s t cs ds j fs f e =
+    let at : 0 + j ≡ j = omega arith in
+    answers_more s t cs ds 0 j fs f e ∙ ap (λ k. take j (answers s t cs ds 0 fs) ++ answered s t cs ds k f ∷ []) at
+
+pub answers_all : (s : Settings) (t : Tree) (cs : List Child) (ds : List (Option Outcome)) (j : ℕ) (fs : List FieldRule) → length fs ≤ j
+    → take j (answers s t cs ds 0 fs) ≡ answers s t cs ds 0 fs
+answers_all s t cs ds j fs l = let n : length (answers s t cs ds 0 fs) ≡ length fs = answers_length s t cs ds 0 fs in take_all j (answers s t cs ds 0 fs) (omega (arith, n, l))
+
+-- an extra member by the policy
+pub allowed_by : (start new : Out) (s : Settings) (t : Tree) (kept : KeptParts) (fs : List Answered) (es : List Extra) (b : ExtraBehavior) (child : Option Child) (name : List ℕ) (u : Tree) → b ≡ behavior.Allow
+    → GoingFields start new s t kept fs (es ++ as_extra name u (Kept (extra_child child u)) ∷ []) → GoingFields start new s t kept fs (es ++ extra_by b child (name, u))
+allowed_by start new s t kept fs es b child name u e h = subst (λ x. GoingFields start new s t kept fs (es ++ extra_by x child (name, u))) (sym e) h
+
 -- the loop over the members
 module _ {X Y : Type 0} (g : X → List Y) (p : X → Bool) (ms : List X) (i : ℕ) (m : X) (l : i < length ms) (here : m ≡ get_or ms i m) where
   one_more : filter p (take (i + 1) ms) ≡ filter p (take i ms) ++ filter p (m ∷ [])
@@ -214,6 +238,47 @@ module _ {X Y : Type 0} (g : X → List Y) (p : X → Bool) (ms : List X) (i : �
 
 pub all_passed : {X Y : Type 0} (g : X → List Y) (p : X → Bool) (ms : List X) (i : ℕ) → length ms ≤ i → flat_map g (filter p (take i ms)) ≡ flat_map g (filter p ms)
 all_passed g p ms i l = ap (λ xs. flat_map g (filter p xs)) (take_all i ms l)
+
+-- what was told of the member at a place
+at_index : {X : Type 0} (xs : List X) (i : ℕ) (d : X) → i < length xs → slice_get xs i ≡ Some (get_or xs i d)
+at_index [] i d l = absurd (omega (arith, l))
+at_index (x ∷ xs) zero d l = refl
+at_index (x ∷ xs) (suc i) d l = at_index xs i d (omega (arith, l))
+
+pub told_at : {X : Type 0} (p : X → Bool) (ms : List X) (i : ℕ) (m : X) (told : List Bool) (b : Bool)
+    → i < length ms → m ≡ get_or ms i m → told ≡ map p ms → slice_get told i ≡ Some b → p m ≡ b
+told_at p ms i m told b l here all at =
+    ap p here ∙ sym (looked p (slice_get ms i) (get_or ms i m) b (at_index ms i m l) (sym (ap (λ xs. slice_get xs i) all ∙ slice_get-map p ms i) ∙ at))
+
+pub passed_turn : {X : Type 0} (start out new : Out) (s : Settings) (t : Tree) (more kept : KeptParts) (fs : List Answered) (g : X → List Extra) (p : X → Bool) (ms : List X) (i : ℕ) (m : X)
+    → i < length ms → m ≡ get_or ms i m → p m ≡ true → out ≡ new → more ≡ kept
+    → GoingFields start new s t kept fs (flat_map g (filter p (take i ms)) ++ g m) → GoingFields start out s t more fs (flat_map g (filter p (take (i + 1) ms)))
+passed_turn start out new s t more kept fs g p ms i m l here e a b h =
+    subst (λ es. GoingFields start out s t more fs es) (sym (passed_more g p ms i m l here e))
+    (subst (λ k. GoingFields start out s t k fs (flat_map g (filter p (take i ms)) ++ g m)) (sym b)
+    (subst (λ o. GoingFields start o s t kept fs (flat_map g (filter p (take i ms)) ++ g m)) (sym a) h))
+
+pub failed_turn : {X : Type 0} (start out new : Out) (s : Settings) (t : Tree) (more kept : KeptParts) (fs : List Answered) (g : X → List Extra) (p : X → Bool) (ms : List X) (i : ℕ) (m : X)
+    → i < length ms → m ≡ get_or ms i m → p m ≡ false → out ≡ new → more ≡ kept
+    → GoingFields start new s t kept fs (flat_map g (filter p (take i ms))) → GoingFields start out s t more fs (flat_map g (filter p (take (i + 1) ms)))
+failed_turn start out new s t more kept fs g p ms i m l here e a b h =
+    subst (λ es. GoingFields start out s t more fs es) (sym (failed_more g p ms i m l here e))
+    (subst (λ k. GoingFields start out s t k fs (flat_map g (filter p (take i ms)))) (sym b)
+    (subst (λ o. GoingFields start o s t kept fs (flat_map g (filter p (take i ms)))) (sym a) h))
+
+pub last_turn : {X : Type 0} (start new : Out) (s : Settings) (t : Tree) (kept : KeptParts) (fs : List Answered) (g : X → List Extra) (p : X → Bool) (ms all : List X) (i : ℕ)
+    → length ms ≤ i → all ≡ ms → GoingFields start new s t kept fs (flat_map g (filter p (take i ms))) → GoingFields start new s t kept fs (flat_map g (filter p all))
+last_turn start new s t kept fs g p ms all i l same h =
+    subst (λ es. GoingFields start new s t kept fs es) (all_passed g p ms i l ∙ ap (λ xs. flat_map g (filter p xs)) (sym same)) h
+
+-- one more field, and the last one
+module _ (start new : Out) (s : Settings) (t : Tree) (kept : KeptParts) (cs : List Child) (ds : List (Option Outcome)) (j : ℕ) (fs : List FieldRule) where
+  pub field_turn : (f : FieldRule) → slice_get fs j ≡ Some f → GoingFields start new s t kept (take j (answers s t cs ds 0 fs) ++ answered s t cs ds j f ∷ []) []
+      → GoingFields start new s t kept (take (j + 1) (answers s t cs ds 0 fs)) []
+  field_turn f e h = subst (λ xs. GoingFields start new s t kept xs []) (sym (answers_next s t cs ds j fs f e)) h
+
+  pub last_field : length fs ≤ j → GoingFields start new s t kept (take j (answers s t cs ds 0 fs)) [] → GoingFields start new s t kept (answers s t cs ds 0 fs) []
+  last_field l h = subst (λ xs. GoingFields start new s t kept xs []) (answers_all s t cs ds j fs l) h
 
 -- the end
 unless_bad : (es : List LineError) (o : Outcome) → (es ≡ [] → ⊥) → unless_errors es o ≡ Bad es

@@ -4,7 +4,6 @@ ghost use Rattle.std.specs.Prelude.{List, length, slice_get, [], ◌∷◌, ◌+
 ghost use Rattle.pv_tree.specs.Parts.{members_at};
 ghost use Rattle.pv_tree.specs.declared.Step.TheVariants.{Name};
 ghost use Rattle.pv_tree.specs.declared.Tree.{out-Tree};
-ghost use Rattle.pv_fault.specs.declared.Kind.TheVariants as kind;
 ghost use Rattle.pv_fault.specs.Single.{one_error};
 ghost use Rattle.pv_fault.specs.Under.{outcome_under};
 ghost use Rattle.pv_fields.specs.FieldList.{Answered, Extra};
@@ -71,7 +70,7 @@ impl<
     /// An extra member that is forbidden.
     #[inline(never)]
     fn forbidden(&self, out: &mut Out<'a>, name: &Text, value: &Tree) -> Result<(), Memory>
-        ensures { IfOk result (λ done. Walks out.old out.new (Ok None) (outcome_under (Name name.now) (one_error kind.ExtraForbidden value.now))) }
+        ensures { IfOk result (λ done. Walks out.old out.new (Ok None) (outcome_under (Name name.now) (one_error Kind.ExtraForbidden value.now))) }
     {
         let len = out.path.len();
         out.path.push(Step::Name(name.share(self.scene.alloc)?))?;

@@ -5,7 +5,6 @@ ghost use Rattle.std.specs.Option.{option_map};
 ghost use Rattle.pv_tree.specs.Parts.{members_at};
 ghost use Rattle.pv_tree.specs.declared.Tree.{out-Tree};
 ghost use Rattle.pv_rules.specs.declared.FieldRule.{FieldRule};
-ghost use Rattle.pv_fault.specs.declared.Kind.TheVariants as kind;
 ghost use Rattle.pv_fault.specs.Single.{error_here};
 ghost use Rattle.pv_fault.specs.Under.{all_at_path};
 ghost use Rattle.pv_fields.specs.Finding.{found_field};
@@ -101,7 +100,7 @@ impl<
         stand_in: StandIn<'a>,
     ) -> Result<Option<Good>, Memory>
         requires { Nests F.Fn self.now }
-        ensures { IfOk result (λ found. WalkedAt out.old out.new place.now found (stand_in_outcome (below self.now) stand_in)) }
+        ensures { IfOk result (λ found. WalkedAt out.old out.new place.now found (stand_in_outcome (below self.now) stand_in.entry)) }
     {
         let len = out.path.len();
         out.enter(self.scene.alloc, place.as_slice())?;
@@ -113,7 +112,7 @@ impl<
     /// The error of a field that is missing.
     #[inline(never)]
     fn missing(&self, out: &mut Out<'a>, place: &Loc, tree: &Tree) -> Result<(), Memory>
-        ensures { OnOk result (Adds out.old out.new (all_at_path place.now (error_here kind.Missing tree.now ∷ []))) }
+        ensures { OnOk result (Adds out.old out.new (all_at_path place.now (error_here Kind.Missing tree.now ∷ []))) }
     {
         let len = out.path.len();
         out.enter(self.scene.alloc, place.as_slice())?;
