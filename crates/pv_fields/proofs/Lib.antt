@@ -3,3 +3,5 @@ pub mod Making
 pub mod Placing
 pub mod Reaching
 pub mod Marks
+pub mod Parts
+pub mod SetNames

@@ -1,7 +1,7 @@
 -- The outcome of a list of fields, from what came of each field and of each extra key.
 -- All errors come: those of the fields in the order of the fields, then those of the extra keys in
 -- the order of the input.
-use Rattle.std.specs.Prelude.{ℕ, List, [], ◌∷◌, ◌++◌, length, map, Option, Some}
+use Rattle.std.specs.Prelude.{ℕ, List, [], ◌∷◌, ◌++◌, length, map, Option, None, Some}
 use Rattle.std.specs.List.{flat_map}
 use Rattle.pv_tree.specs.declared.Step.TheVariants.{Name}
 use Rattle.pv_tree.specs.declared.Tree.{Tree}
@@ -12,6 +12,7 @@ use Rattle.pv_rules.specs.declared.FieldsKind.{FieldsKind}
 use Rattle.pv_rules.specs.declared.FieldsKind.TheVariants as kind
 use Rattle.pv_rules.specs.declared.FieldsRule.{FieldsRule}
 use Rattle.pv_rules.specs.declared.Settings.{Settings}
+use Rattle.pv_fault.specs.declared.Good as success
 use Rattle.pv_fault.specs.declared.Grade.{Grade}
 use Rattle.pv_fault.specs.declared.Grade.TheVariants as grade
 use Rattle.pv_fault.specs.declared.Kind.TheVariants as fault
@@ -104,9 +105,19 @@ field_value a = flat_map (named_value a.field.name) (answer_outcome a.answer)
 abbrev pub extra_value : Extra → List (List ℕ × Value)
 extra_value e = flat_map (named_value e.name) (extra_outcome e.answer)
 
+-- the success of an outcome
+abbrev pub good_of : Outcome → Option success.Good
+good_of (Good v g n) = Some (record { value = v; grade = g; fields = n })
+good_of (Bad es) = None
+
+-- the name of something, where it succeeded
+abbrev pub name_under : List ℕ → Option success.Good → List (List ℕ)
+name_under name None = []
+name_under name (Some g) = name ∷ []
+
 -- the name of a field that was found
 abbrev pub name_if_given : List ℕ → FieldAnswer → List (List ℕ)
-name_if_given name (Given path o) = name ∷ []
+name_if_given name (Given path o) = name_under name (good_of o)
 name_if_given name (Defaulted o) = []
 name_if_given name Missing = []
 name_if_given name Absent = []

@@ -8,7 +8,8 @@ use Rattle.pv_fault.specs.declared.Grade.TheVariants as grade
 use Rattle.pv_fault.specs.declared.Good.{Good}
 use Rattle.pv_fault.specs.Grades.{least, least_of}
 use Rattle.pv_fault.specs.Counts.{sum_of, sum_of_two}
-use Rattle.pv_fields.specs.FieldList.{Answered, Extra, all_outcomes, field_value, extra_value, given_names, grade_in, count_in, value_of}
+use Rattle.pv_fields.specs.FieldList.{Answered, Extra, all_outcomes, field_value, extra_value, given_names, name_under, grade_in, count_in, value_of}
+pub use Rattle.pv_fields.specs.FieldList.{good_of}
 
 -- the fields with their values, the names of those that were found, the extra members, and the grade
 -- and the count of all of them
@@ -43,7 +44,7 @@ count_with count (Some g) = sum_of_two count g.fields
 abbrev pub given_kept : KeptParts → List ℕ → Option Good → KeptParts
 given_kept k name found = record {
   fields = k.fields ++ found_under name found;
-  given = k.given ++ name ∷ [];
+  given = k.given ++ name_under name found;
   extra = k.extra;
   grade = grade_with k.grade found;
   count = count_with k.count found;

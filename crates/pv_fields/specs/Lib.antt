@@ -4,3 +4,4 @@ pub mod FieldList
 pub mod Kept
 pub mod Planned
 pub mod Directories
+pub mod Sublists

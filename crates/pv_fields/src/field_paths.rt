@@ -76,7 +76,8 @@ fn paths_by(
     };
     let mut all = alias_paths(alloc, settings, alias)?;
     if reads_by_name(settings) {
-        all.push(named(alloc, name)?)?;
+        let by_name = named(alloc, name)?;
+        all.push(by_name)?;
     }
     Ok(all)
 }

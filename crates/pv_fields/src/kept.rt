@@ -1,13 +1,47 @@
 //! The fields and extra keys of an object, while none of them failed.
 
+ghost use Rattle.std.specs.Prelude.{◌≡◌, ◌++◌, OnOk};
+ghost use Rattle.pv_fields.specs.FieldList.{name_under};
+ghost use Rattle.pv_fields.specs.Kept.{found_under};
+
 use crate::plan::FieldPlan;
 use crate::tally::Tally;
-use crate::values::value_of;
 use pv_fault::{Good, Grade, add_counts};
 use pv_text::{Memory, Text};
 use pv_tree::Value;
 use std::alloc::Global;
 use std::marker::Model;
+
+/// Adds the name of something, where it was found.
+fn add_name(
+    alloc: Global,
+    all: &mut Vec<Text>,
+    name: &Text,
+    found: &Option<Good>,
+) -> Result<(), Memory>
+    ensures { OnOk result (all.new.items ≡ all.old.items ++ name_under name.now found.now) }
+{
+    match found {
+        Some(_) => all.push(name.share(alloc)?)?,
+        None => {}
+    }
+    Ok(())
+}
+
+/// Adds a value under a name, where it was found.
+fn add(
+    alloc: Global,
+    all: &mut Vec<(Text, Value)>,
+    name: &Text,
+    found: Option<Good>,
+) -> Result<(), Memory>
+    ensures { OnOk result (all.new.items ≡ all.old.items ++ found_under name.now found) }
+{
+    if let Some(good) = found {
+        all.push((name.share(alloc)?, good.value))?;
+    }
+    Ok(())
+}
 
 /// What is kept of the fields and the extra keys of an object so far.
 #[derive(Drop)]
@@ -49,6 +83,14 @@ impl KeptFields {
         })
     }
 
+    /// Adds a field with its value, where it was found.
+    fn add_field(&mut self, alloc: Global, name: &Text, found: Option<Good>) -> Result<(), Memory>
+        ensures { OnOk result (self.new ≡ default_kept self.old name.now found) }
+    {
+        self.tally.add(&found);
+        add(alloc, &mut self.fields, name, found)
+    }
+
     /// Keeps the success of a field that was found in the object, where there are `mark` errors, as before the
     /// first field. Else nothing changes.
     pub fn given(
@@ -65,9 +107,8 @@ impl KeptFields {
         if errors != mark {
             return Ok(());
         }
-        self.tally.add(&found);
-        self.given.push(name.share(alloc)?)?;
-        add(alloc, &mut self.fields, name, found)
+        add_name(alloc, &mut self.given, name, &found)?;
+        self.add_field(alloc, name, found)
     }
 
     /// The same of the default of a field that was not found.
@@ -85,8 +126,7 @@ impl KeptFields {
         if errors != mark {
             return Ok(());
         }
-        self.tally.add(&found);
-        add(alloc, &mut self.fields, name, found)
+        self.add_field(alloc, name, found)
     }
 
     /// The same of an extra key.
@@ -119,29 +159,11 @@ impl KeptFields {
             tally,
         } = self;
         let count = add_counts(Some(given.len() as u64), tally.count);
-        let value = value_of(alloc, plan.rule.kind, &plan.names, fields, given, extra)?;
+        let value = plan.value_of(alloc, fields, given, extra)?;
         Ok(Good {
             value,
             grade: tally.grade,
             fields: count,
         })
     }
-}
-
-ghost use Rattle.std.specs.Prelude.{◌≡◌, ◌++◌, OnOk};
-ghost use Rattle.pv_fields.specs.Kept.{found_under};
-
-/// Adds a value under a name, where it was found.
-fn add(
-    alloc: Global,
-    all: &mut Vec<(Text, Value)>,
-    name: &Text,
-    found: Option<Good>,
-) -> Result<(), Memory>
-    ensures { OnOk result (all.new.items ≡ all.old.items ++ found_under name.now found) }
-{
-    if let Some(good) = found {
-        all.push((name.share(alloc)?, good.value))?;
-    }
-    Ok(())
 }

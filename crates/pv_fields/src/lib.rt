@@ -2,12 +2,14 @@
 //! fields and extra keys make together.
 #![tactic(auto)]
 
+mod blank;
 mod directory;
 mod field_paths;
 mod finding;
 mod following;
 mod found;
 mod kept;
+mod laws;
 mod plan;
 mod tally;
 mod values;
@@ -15,4 +17,5 @@ mod values;
 pub use finding::Finds;
 pub use found::Found;
 pub use kept::KeptFields;
+pub use laws::{kept_parts_make_the_whole, set_names_are_fields};
 pub use plan::FieldPlan;

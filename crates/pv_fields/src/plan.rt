@@ -1,5 +1,6 @@
 //! Lists of fields, ready to be looked up.
 
+use crate::blank::Blank;
 use crate::field_paths::{FieldPaths, all_field_paths};
 use crate::following::first_found;
 use crate::found::Found;
@@ -18,6 +19,7 @@ pub struct FieldPlan {
     pub(crate) paths: Items<FieldPaths>,
     /// The names of the fields.
     pub(crate) names: Members,
+    pub(crate) blank: Blank,
 }
 
 impl Model for FieldPlan {
@@ -62,6 +64,7 @@ impl FieldPlan {
             settings: settings.copy(alloc)?,
             paths,
             names: names_of(alloc, rule.fields.as_slice())?,
+            blank: Blank::new(alloc)?,
         })
     }
 
@@ -77,6 +80,13 @@ impl FieldPlan {
         ensures { result ≡ length self.now.0.fields }
     {
         self.rule.fields.len()
+    }
+
+    /// Whether the fields are those of a model or those of a typed dict.
+    pub fn kind(&self) -> FieldsKind
+        ensures { result ≡ self.now.0.kind }
+    {
+        self.rule.kind
     }
 
     /// The name of a field.

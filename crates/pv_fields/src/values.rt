@@ -9,6 +9,7 @@ ghost use Rattle.pv_fields.specs.FieldList as spec;
 ghost use Rattle.pv_fields.specs.FieldList.{text_entry};
 ghost use Rattle.pv_fields.specs.Planned.{among};
 
+use crate::plan::FieldPlan;
 use pv_distinct::merged;
 use pv_rules::FieldsKind;
 use pv_text::{Memory, Text};
@@ -80,27 +81,29 @@ fn merged_among(
     merged(alloc, entries)
 }
 
-/// The value of fields and extra keys. `names` are the names of the fields that there may be, in their order.
-pub(crate) fn value_of(
-    alloc: Global,
-    kind: FieldsKind,
-    names: &Members,
-    fields: Vec<(Text, Value)>,
-    given: Vec<Text>,
-    extra: Vec<(Text, Value)>,
-) -> Result<Value, Memory>
-    ensures { IfOk result (λ v. v ≡ spec.value_of kind fields.items given.items extra.items) }
-{
-    match kind {
-        FieldsKind::Model => Ok(Value::Model {
-            cls: Text::from_str(alloc, "")?,
-            fields: Row::from_vec(alloc, fields)?,
-            set: Row::from_vec(alloc, given)?,
-            extra: Row::from_vec(alloc, extra)?,
-        }),
-        FieldsKind::TypedDict => {
-            let entries = entries_of(alloc, fields, extra)?;
-            Ok(Value::Dict(Entries::from_vec(merged_among(alloc, names, entries)?)))
+impl FieldPlan {
+    /// The value of fields and extra keys.
+    pub(crate) fn value_of(
+        &self,
+        alloc: Global,
+        fields: Vec<(Text, Value)>,
+        given: Vec<Text>,
+        extra: Vec<(Text, Value)>,
+    ) -> Result<Value, Memory>
+        ensures { IfOk result (λ v. v ≡ spec.value_of self.now.0.kind fields.items given.items extra.items) }
+    {
+        match self.rule.kind {
+            FieldsKind::Model => Ok(Value::Model {
+                cls: self.blank.cls(alloc)?,
+                fields: Row::from_vec(alloc, fields)?,
+                set: Row::from_vec(alloc, given)?,
+                extra: self.blank.extra(alloc, extra)?,
+            }),
+            FieldsKind::TypedDict => {
+                let entries = entries_of(alloc, fields, extra)?;
+                let entries = merged_among(alloc, &self.names, entries)?;
+                Ok(Value::Dict(Entries::from_vec(entries)))
+            }
         }
     }
 }
