@@ -22,7 +22,7 @@ use Rattle.pv_fault.specs.declared.Kind.TheVariants as kind
 use Rattle.pv_fault.specs.declared.LineError.{LineError}
 use Rattle.pv_fault.specs.declared.Outcome.{Outcome}
 use Rattle.pv_fault.specs.declared.Outcome.TheVariants.{Good, Bad}
-use Rattle.pv_fault.specs.Single.{one_error}
+use Rattle.pv_fault.specs.Single.{error_here}
 use Rattle.pv_fault.specs.Counts.{sum_of}
 use Rattle.pv_fault.specs.Under.{at_path, all_at_path, all_under, outcome_under}
 use Rattle.pv_collect.specs.Gathering as gathering
@@ -173,11 +173,10 @@ module _ (start mid new : Out) (s : Settings) (t : Tree) (kept more : KeptParts)
       ∙ ap (extra_kept (kept_of fs es) name) (w.answer ∙ sym (good_past (Name name) o)) ∙ sym (kept_more fs es name u o))
 
 pub forbidden_next : (start mid new : Out) (s : Settings) (t : Tree) (kept : KeptParts) (fs : List Answered) (es : List Extra) → GoingFields start mid s t kept fs es
-    → (name : List ℕ) (u : Tree) → Walked mid new None (outcome_under (Name name) (one_error kind.ExtraForbidden u))
+    → (name : List ℕ) (u : Tree) → Adds mid new (all_under (Name name) (error_here kind.ExtraForbidden u ∷ []))
     → GoingFields start new s t kept fs (es ++ as_extra name u Forbidden ∷ [])
-forbidden_next start mid new s t kept fs es h name u w =
-    extra_next start mid new s t kept kept fs es h (as_extra name u Forbidden)
-    (under_name start mid new s t kept kept fs es h name None (one_error kind.ExtraForbidden u) w) (λ same is. is ∙ sym (forbidden_more fs es name u))
+forbidden_next start mid new s t kept fs es h name u adds =
+    extra_next start mid new s t kept kept fs es h (as_extra name u Forbidden) adds (λ same is. is ∙ sym (forbidden_more fs es name u))
 
 pub ignored_next : (start new : Out) (s : Settings) (t : Tree) (kept : KeptParts) (fs : List Answered) (es : List Extra) → GoingFields start new s t kept fs es
     → GoingFields start new s t kept fs (es ++ [])

@@ -3,6 +3,7 @@ pub mod Walking
 pub mod Parts
 pub mod Takers
 pub mod Turns
+pub mod ScalarChildren
 pub mod FieldParts
 pub mod FieldTurns
 pub mod Around

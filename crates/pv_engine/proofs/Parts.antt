@@ -83,18 +83,9 @@ walks_unhashable old new next found (Ok answer) b k t (Good v g n) w h x =
     (fails_by b (hashable v) k t v g n (ap (λ y. b && not (is_hashable y)) (sym w.answer) ∙ h)) x
 walks_unhashable old new next found (Ok answer) b k t (Bad es) w h x = absurd (not_both b (sym (ap (λ y. b && not (is_hashable y)) w.answer) ∙ h))
 
-pub key_unhashable : (f : Child) (name shared : List ℕ) (old new next : Out) (found : Option good.Good) (r : Result (Option good.Good) Memory) → shared ≡ name
-    → Walked old new found (f (tree.Str shared)) → not (is_hashable found) ≡ true → Walks new next r (one_error kind.DictKeyNotHashable (tree.Str shared))
-    → Walks old next r (key_in name (f (tree.Str name)))
-key_unhashable f name shared old new next found r e w h x =
-    subst (λ n. Walks old next r (key_in n (f (tree.Str n)))) e
-    (walks_unhashable old new next found r true kind.DictKeyNotHashable (tree.Str shared) (f (tree.Str shared)) w h x)
-
-pub key_hashable : (f : Child) (name shared : List ℕ) (old new : Out) (found : Option good.Good) → shared ≡ name
-    → Walked old new found (f (tree.Str shared)) → not (is_hashable found) ≡ false → Walked old new found (key_in name (f (tree.Str name)))
-key_hashable f name shared old new found e w h =
-    subst (λ n. Walked old new found (key_in n (f (tree.Str n)))) e
-    (walked_hashed old new found true kind.DictKeyNotHashable (tree.Str shared) (f (tree.Str shared)) w h)
+pub key_named : (f : Child) (name shared : List ℕ) (old new : Out) (r : Result (Option good.Good) Memory) → shared ≡ name
+    → Walks old new r (key_in shared (f (tree.Str shared))) → Walks old new r (key_in name (f (tree.Str name)))
+key_named f name shared old new r e w = subst (λ n. Walks old new r (key_in n (f (tree.Str n)))) e w
 
 -- items
 pub going_start : (old : Out) (k : Collection) (kept : Kept Value) → kept ≡ nothing_kept k → Going old old k kept []

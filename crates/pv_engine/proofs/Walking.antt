@@ -125,7 +125,7 @@ at_root : (es : List LineError) → all_at_path [] es ≡ es
 at_root [] = refl
 at_root (e ∷ es) = ap (λ more. e ∷ more) (at_root es)
 
-pub outcome_alone : (old new : Out) (found : Option good.Good) (o : Outcome) → old.errors ≡ [] → old.path ≡ [] → Walked old new found o → outcome_of new found ≡ o
-outcome_alone old new found (Good v g n) none root w = ap (outcome_of new) w.answer
+pub outcome_alone : (old new : Out) (found : Option good.Good) (o : Outcome) → old.errors ≡ [] → old.path ≡ [] → Walked old new found o → outcome_of new.errors found ≡ o
+outcome_alone old new found (Good v g n) none root w = ap (outcome_of new.errors) w.answer
 outcome_alone old new found (Bad es) none root w =
-    ap (outcome_of new) w.answer ∙ ap Bad (w.errors ∙ ap (λ xs. xs ++ all_at_path old.path es) none ∙ ap (λ p. all_at_path p es) root ∙ at_root es)
+    ap (outcome_of new.errors) w.answer ∙ ap Bad (w.errors ∙ ap (λ xs. xs ++ all_at_path old.path es) none ∙ ap (λ p. all_at_path p es) root ∙ at_root es)

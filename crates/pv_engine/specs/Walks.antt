@@ -31,7 +31,7 @@ abbrev pub Walks : Out → Out → Result (Option Good) Memory → Outcome → T
 Walks old new (Ok found) o = Walked old new found o
 Walks old new (Err e) o = Unit
 
--- the outcome of a walk that began with nothing
-abbrev pub outcome_of : Out → Option Good → Outcome
-outcome_of out None = outcome.Bad out.errors
-outcome_of out (Some g) = outcome.Good g.value g.grade g.fields
+-- the outcome of a walk that began with nothing, by the errors that it left
+abbrev pub outcome_of : List LineError → Option Good → Outcome
+outcome_of errors None = outcome.Bad errors
+outcome_of errors (Some g) = outcome.Good g.value g.grade g.fields

@@ -1,11 +1,11 @@
 //! Dicts: every member by the child of the keys and by that of the values.
 
-ghost use Rattle.std.specs.Prelude.{List, map, codes, length, ◌≡◌, IfOk};
+ghost use Rattle.std.specs.Prelude.{List, map, codes, length, ◌≡◌, IfOk, true};
 ghost use Rattle.pv_tree.specs.declared.Step.TheVariants.{Name};
 ghost use Rattle.pv_fault.specs.Under.{outcome_under};
 ghost use Rattle.pv_collect.specs.Gathering.{Pair, gather_pairs};
 ghost use Rattle.pv_engine.specs.Rules as gives;
-ghost use Rattle.pv_engine.specs.Going.{key_in, GoingPairs, WalkedPair};
+ghost use Rattle.pv_engine.specs.Going.{hashed, key_in, GoingPairs, WalkedPair};
 ghost use Rattle.pv_engine.specs.Walks.{Walks};
 ghost use Rattle.pv_engine.specs.Nests.{Nests, below};
 ghost use Rattle.pv_engine.specs.declared.out.Out as written;
@@ -25,6 +25,25 @@ impl<
     'a,
     F: Fn(&Scene<'a>, &mut Out<'a>, u64, u32, &Tree) -> Result<Option<Good>, Memory>,
 > Rules<'s, 'a, F> {
+    /// A text by the child of the keys.
+    fn key_text(
+        &self,
+        out: &mut Out<'a>,
+        children: &[u32],
+        text: &Tree,
+    ) -> Result<Option<Good>, Memory>
+        requires { Nests F.Fn self.now }
+        ensures { Walks out.old out.new result (hashed true Kind.DictKeyNotHashable text.now
+            (gives.first (map (below self.now) children.now) text.now)) }
+    {
+        let found = self.first(out, children, text)?;
+        if lacks_hash(true, &found) {
+            drop(found);
+            return out.fail(self.scene.alloc, Kind::DictKeyNotHashable, text);
+        }
+        Ok(found)
+    }
+
     /// A name as a text by the child of the keys.
     fn key_here(
         &self,
@@ -37,11 +56,9 @@ impl<
             (gives.first (map (below self.now) children.now) (Tree.Str name.now))) }
     {
         let text = Tree::Str(name.share(self.scene.alloc)?);
-        let found = self.first(out, children, &text)?;
-        if lacks_hash(true, &found) {
-            return out.fail(self.scene.alloc, Kind::DictKeyNotHashable, &text);
-        }
-        Ok(found)
+        let found = self.key_text(out, children, &text);
+        drop(text);
+        found
     }
 
     /// The same, with the mark of a key on the path.

@@ -4,12 +4,12 @@ ghost use Rattle.std.specs.Prelude.{List, length, slice_get, [], ◌∷◌, ◌+
 ghost use Rattle.pv_tree.specs.Parts.{members_at};
 ghost use Rattle.pv_tree.specs.declared.Step.TheVariants.{Name};
 ghost use Rattle.pv_tree.specs.declared.Tree.{out-Tree};
-ghost use Rattle.pv_fault.specs.Single.{one_error};
-ghost use Rattle.pv_fault.specs.Under.{outcome_under};
+ghost use Rattle.pv_fault.specs.Single.{error_here};
+ghost use Rattle.pv_fault.specs.Under.{all_under, outcome_under};
 ghost use Rattle.pv_fields.specs.FieldList.{Answered, Extra};
 ghost use Rattle.pv_engine.specs.Fields as gives;
 ghost use Rattle.pv_engine.specs.Objects.{GoingObject, IsFound, children_by, extra_by_policy, extra_child_by, extras_by};
-ghost use Rattle.pv_engine.specs.Walks.{Walks};
+ghost use Rattle.pv_engine.specs.Walks.{Adds, Walks};
 ghost use Rattle.pv_engine.specs.Nests.{Nests};
 ghost use Rattle.pv_engine.specs.declared.out.Out as written;
 
@@ -68,14 +68,11 @@ impl<
     }
 
     /// An extra member that is forbidden.
-    #[inline(never)]
     fn forbidden(&self, out: &mut Out<'a>, name: &Text, value: &Tree) -> Result<(), Memory>
-        ensures { IfOk result (λ done. Walks out.old out.new (Ok None) (outcome_under (Name name.now) (one_error Kind.ExtraForbidden value.now))) }
+        ensures { OnOk result (Adds out.old out.new (all_under (Name name.now) (error_here Kind.ExtraForbidden value.now ∷ []))) }
     {
-        let len = out.path.len();
-        out.path.push(Step::Name(name.share(self.scene.alloc)?))?;
-        out.fail(self.scene.alloc, Kind::ExtraForbidden, value)?;
-        out.path.cut(len);
+        let step = Step::Name(name.share(self.scene.alloc)?);
+        out.push_below(self.scene.alloc, Kind::ExtraForbidden, step, value)?;
         Ok(())
     }
 

@@ -116,7 +116,7 @@ impl<
     {
         let len = out.path.len();
         out.enter(self.scene.alloc, place.as_slice())?;
-        out.fail(self.scene.alloc, Kind::Missing, tree)?;
+        out.push(self.scene.alloc, Kind::Missing, tree)?;
         out.path.cut(len);
         Ok(())
     }

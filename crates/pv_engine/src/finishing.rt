@@ -1,7 +1,7 @@
 //! What shows when all items of an array were walked.
 
 ghost use Rattle.std.specs.Prelude.{List, ◌≡◌, length, OnOk};
-ghost use Rattle.pv_collect.specs.Gathering.{Part, gather_items, missing_from, missing_of};
+ghost use Rattle.pv_collect.specs.Gathering.{Part, gather_items, missing_of};
 ghost use Rattle.pv_engine.specs.Going.{Going};
 ghost use Rattle.pv_engine.specs.Walks.{Walks, Adds};
 ghost use Rattle.pv_engine.specs.declared.out.Out as written;
@@ -20,17 +20,6 @@ impl<
     'a,
     F: Fn(&Scene<'a>, &mut Out<'a>, u64, u32, &Tree) -> Result<Option<Good>, Memory>,
 > Rules<'s, 'a, F> {
-    /// The error of a position that no item has.
-    fn push_missing(&self, out: &mut Out<'a>, position: u64, tree: &Tree) -> Result<(), Memory>
-        ensures { OnOk result (Adds out.old out.new (missing_from position 1 tree.now)) }
-    {
-        let len = out.path.len();
-        out.path.push(Step::Index(position))?;
-        out.fail(self.scene.alloc, Kind::Missing, tree)?;
-        out.path.cut(len);
-        Ok(())
-    }
-
     /// An error for each of the positions that no item has.
     fn push_all_missing(
         &self,
@@ -45,7 +34,8 @@ impl<
             return Ok(());
         };
         for more in 0..wanted.saturating_sub(items) {
-            self.push_missing(out, items + more, tree)?;
+            let position = Step::Index(items + more);
+            out.push_below(self.scene.alloc, Kind::Missing, position, tree)?;
         }
         Ok(())
     }

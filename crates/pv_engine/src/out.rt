@@ -1,17 +1,18 @@
 //! What every step of a walk writes.
 
-ghost use Rattle.std.specs.Prelude.{◌≡◌, [], ◌++◌, OnOk};
-ghost use Rattle.pv_fault.specs.Single.{one_error};
-ghost use Rattle.pv_engine.specs.Walks.{Walks, outcome_of};
+ghost use Rattle.std.specs.Prelude.{◌≡◌, [], ◌∷◌, ◌++◌, OnOk};
+ghost use Rattle.pv_fault.specs.Single.{error_here, one_error};
+ghost use Rattle.pv_fault.specs.Under.{all_under};
+ghost use Rattle.pv_engine.specs.Walks.{Adds, Walks};
 
-use pv_fault::{Faults, Good, Kind, Outcome};
+use pv_fault::{Faults, Good, Kind};
 use pv_scalar::Matchers;
 use pv_text::Memory;
 use pv_tree::{Loc, Step, Tree};
 use std::alloc::Global;
 
 /// The errors so far, the steps from the root to where the walk stands, and the matchers that were made.
-#[derive(Drop)]
+/// It is ended by `into_errors`, so that nothing here takes the matchers apart.
 pub(crate) struct Out<'a> {
     pub(crate) errors: Faults,
     pub(crate) path: Loc,
@@ -41,27 +42,47 @@ impl<'a> Out<'a> {
         Ok(())
     }
 
-    /// The outcome of a walk that began with nothing.
-    pub(crate) fn outcome(self, found: Option<Good>) -> Outcome
-        ensures { result ≡ outcome_of self.entry found }
+    /// The errors. The rest is let go, the matchers by their own crate.
+    pub(crate) fn into_errors(self) -> Faults
+        ensures { result ≡ self.entry.errors }
     {
-        match found {
-            Some(
-                Good {
-                    value,
-                    grade,
-                    fields,
-                },
-            ) => Outcome::Good {
-                value,
-                grade,
-                fields,
-            },
-            None => Outcome::Bad(self.errors),
-        }
+        let Out {
+            errors,
+            path,
+            matchers,
+        } = self;
+        drop(path);
+        matchers.release();
+        errors
     }
 
-    /// Adds one error. It stays out of the frames of the recursion.
+    /// Adds one error at where the walk stands.
+    pub(crate) fn push(&mut self, alloc: Global, kind: Kind, tree: &Tree) -> Result<(), Memory>
+        ensures { OnOk result (Adds self.old self.new (error_here kind tree.now ∷ [])) }
+    {
+        self.errors.push_at(alloc, kind, &self.path, tree)
+    }
+
+    /// Adds one error at a step further down. It stays out of the frames of the recursion, as does `fail`.
+    #[inline(never)]
+    #[tactic(auto, using(crate::proofs::Walking::adds_stepped))]
+    pub(crate) fn push_below(
+        &mut self,
+        alloc: Global,
+        kind: Kind,
+        step: Step,
+        tree: &Tree,
+    ) -> Result<(), Memory>
+        ensures { OnOk result (Adds self.old self.new (all_under step (error_here kind tree.now ∷ []))) }
+    {
+        let len = self.path.len();
+        self.path.push(step)?;
+        self.push(alloc, kind, tree)?;
+        self.path.cut(len);
+        Ok(())
+    }
+
+    /// Adds one error, and gives nothing.
     #[inline(never)]
     pub(crate) fn fail(
         &mut self,
@@ -71,7 +92,7 @@ impl<'a> Out<'a> {
     ) -> Result<Option<Good>, Memory>
         ensures { Walks self.old self.new result (one_error kind tree.now) }
     {
-        self.errors.push_at(alloc, kind, &self.path, tree)?;
+        self.push(alloc, kind, tree)?;
         Ok(None)
     }
 }

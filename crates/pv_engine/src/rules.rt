@@ -1,6 +1,7 @@
 //! What each kind of node gives, by what its children give.
 
-ghost use Rattle.std.specs.Prelude.{map, slice_get, ◌≡◌};
+ghost use Rattle.std.specs.Prelude.{map, slice_get, ◌≡◌, IfSome};
+ghost use Rattle.pv_tree.specs.declared.Tree.{Tree};
 ghost use Rattle.pv_scalar.specs.Scalars.{scalar_of};
 ghost use Rattle.pv_engine.specs.Rules as gives;
 ghost use Rattle.pv_engine.specs.Run as spec;
@@ -10,7 +11,7 @@ ghost use Rattle.pv_engine.specs.Walks.{Walks};
 ghost use Rattle.pv_engine.specs.Nests.{Nests, below};
 
 use crate::out::Out;
-use crate::scene::Scene;
+use crate::scene::{ScalarNode, Scene};
 use pv_collect::type_error;
 use pv_fault::{Good, Grade, Kind};
 use pv_plan::{Op, Record};
@@ -43,6 +44,22 @@ impl<
         ensures { Walks out.old out.new result (below self.now number tree.now) }
     {
         (self.below)(self.scene, out, self.depth, number, tree)
+    }
+
+    /// The first child, where it is a scalar that may still be entered.
+    pub(crate) fn scalar_child(&self, children: &[u32]) -> Option<ScalarNode<'a>>
+        ensures { IfSome result (λ node. (t : Tree) → gives.first (map (below self.now) children.now) t
+            ≡ scalar_of node.rule.now.0 node.rule.now.1 node.strict t) }
+    {
+        match children {
+            [] => None,
+            [number, ..] => {
+                if self.depth == 0 {
+                    return None;
+                }
+                self.scene.scalar(*number)
+            }
+        }
     }
 
     pub(crate) fn first(
@@ -149,12 +166,6 @@ impl<
         }
     }
 
-    fn strictness(&self, slot: &Record) -> bool
-        ensures { result ≡ strict_in self.now.scene.now.run slot.now.strict }
-    {
-        self.scene.run.unwrap_or(slot.strict)
-    }
-
     #[tactic(auto, unfolding(crate::specs::Run::operation))]
     fn operation(
         &self,
@@ -170,7 +181,7 @@ impl<
     {
         let children = slot.children.as_slice();
         match &slot.op {
-            Op::Scalar(rule) => self.scalar_node(out, rule, self.strictness(slot), tree),
+            Op::Scalar(rule) => self.scalar_node(out, rule, self.scene.strictness(slot), tree),
             Op::Gather(rule) => self.collection(out, rule, children, tree),
             Op::Nullable => self.nullable(out, children, tree),
             Op::Fields(plan) => self.fields(out, plan, children, tree),

@@ -1,9 +1,11 @@
 //! Lists, sets and frozensets: every item by the one child.
 
 ghost use Rattle.std.specs.Prelude.{map, length, ◌≡◌};
+ghost use Rattle.pv_fault.specs.Single.{one_error};
 ghost use Rattle.pv_fault.specs.Under.{outcome_under};
 ghost use Rattle.pv_tree.specs.declared.Step.TheVariants.{Index};
 ghost use Rattle.pv_collect.specs.Gathering.{gather_items};
+ghost use Rattle.pv_scalar.specs.Scalars.{scalar_of};
 ghost use Rattle.pv_engine.specs.Rules as gives;
 ghost use Rattle.pv_engine.specs.Going.{item_in};
 ghost use Rattle.pv_engine.specs.Walks.{Walks};
@@ -12,10 +14,11 @@ ghost use Rattle.pv_engine.specs.Nests.{Nests, below};
 use crate::hashing::lacks_hash;
 use crate::out::Out;
 use crate::rules::Rules;
-use crate::scene::Scene;
+use crate::scene::{ScalarNode, Scene};
 use pv_collect::{KeptItems, needs_hash};
 use pv_fault::{Good, Kind};
 use pv_rules::{Collection, GatherRule};
+use pv_scalar::scalar_answer;
 use pv_text::Memory;
 use pv_tree::{Step, Tree};
 
@@ -37,13 +40,14 @@ impl<
     {
         let found = self.first(out, children, item)?;
         if lacks_hash(needs_hash(kind), &found) {
+            drop(found);
             return out.fail(self.scene.alloc, Kind::SetItemNotHashable, item);
         }
         Ok(found)
     }
 
-    /// The item at this place by the first child.
-    pub(crate) fn item(
+    /// An item by a child that may have parts: its place stands on the path while it is walked.
+    fn entered_item(
         &self,
         out: &mut Out<'a>,
         kind: Collection,
@@ -60,6 +64,75 @@ impl<
         let found = self.item_here(out, kind, children, item)?;
         out.path.cut(len);
         Ok(found)
+    }
+
+    /// The error of an item, at its place.
+    fn fail_at(
+        &self,
+        out: &mut Out<'a>,
+        fault: Kind,
+        place: u64,
+        item: &Tree,
+    ) -> Result<Option<Good>, Memory>
+        ensures { Walks out.old out.new result (outcome_under (Index place) (one_error fault item.now)) }
+    {
+        out.push_below(self.scene.alloc, fault, Step::Index(place), item)?;
+        Ok(None)
+    }
+
+    /// An item by a scalar: its place stands on the path for an error alone.
+    #[tactic(auto, unfolding(pv_scalar::specs::Scalars::scalar_of))]
+    fn scalar_item(
+        &self,
+        out: &mut Out<'a>,
+        kind: Collection,
+        node: ScalarNode<'a>,
+        place: u64,
+        item: &Tree,
+    ) -> Result<Option<Good>, Memory>
+        ensures { Walks out.old out.new result (outcome_under (Index place)
+            (item_in kind item.now (scalar_of node.entry.rule.now.0 node.entry.rule.now.1 node.entry.strict item.now))) }
+    {
+        match scalar_answer(
+            self.scene.alloc,
+            &mut out.matchers,
+            node.rule,
+            node.strict,
+            item,
+        )? {
+            Ok((value, grade)) => {
+                let found = Some(Good {
+                    value,
+                    grade,
+                    fields: None,
+                });
+                if lacks_hash(needs_hash(kind), &found) {
+                    drop(found);
+                    return self.fail_at(out, Kind::SetItemNotHashable, place, item);
+                }
+                Ok(found)
+            }
+            Err(fault) => self.fail_at(out, fault, place, item),
+        }
+    }
+
+    /// The item at this place by the first child.
+    pub(crate) fn item(
+        &self,
+        out: &mut Out<'a>,
+        kind: Collection,
+        children: &[u32],
+        place: u64,
+        item: &Tree,
+    ) -> Result<Option<Good>, Memory>
+        requires { Nests F.Fn self.now }
+        ensures { Walks out.old out.new result (outcome_under (Index place)
+            (item_in kind item.now (gives.first (map (below self.now) children.now) item.now))) }
+    {
+        match self.scalar_child(children) {
+            Some(node) => self.scalar_item(out, kind, node, place, item),
+            None => self.entered_item(out, kind, children, place, item),
+        }
     }
 
     /// All items. What is kept stays out of the frames of the other kinds of nodes, here and for the other collections.

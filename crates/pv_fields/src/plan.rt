@@ -68,13 +68,6 @@ impl FieldPlan {
         })
     }
 
-    /// The kind of node that has the fields.
-    pub fn kind(&self) -> FieldsKind
-        ensures { result ≡ self.now.0.kind }
-    {
-        self.rule.kind
-    }
-
     /// The number of fields.
     pub fn len(&self) -> usize
         ensures { result ≡ length self.now.0.fields }

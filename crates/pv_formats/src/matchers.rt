@@ -83,6 +83,9 @@ impl<'a> Matchers<'a> {
         }
     }
 
+    /// Lets the matchers go.
+    pub fn release(self) {}
+
     /// What a kept matcher says, where there is one.
     fn by_kept(&mut self, pattern: &Pattern, text: &str) -> Option<bool>
         ensures { IfSome result (λ found. found ≡ matches pattern.now text.now) }

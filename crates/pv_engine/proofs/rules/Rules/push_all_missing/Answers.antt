@@ -6,4 +6,4 @@ pub loop-more-init : goal.loop-more-init
 loop-more-init g c = adds_none _
 
 pub loop-more-preserved : goal.loop-more-preserved
-loop-more-preserved g c = missing_next _ _ _ _ _ _ c.loop-more.invariant c.in_ok-push_missing.ensures
+loop-more-preserved g c = missing_next _ _ _ _ _ _ c.loop-more.invariant c.in_ok-push_below.ensures
