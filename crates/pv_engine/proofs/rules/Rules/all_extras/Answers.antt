@@ -19,10 +19,10 @@ loop-place-preserved g c start fs h mark =
     let told = told_at (is_left o) ms c.loop-place.place c.index-members-place.result _ _ (omega arith) c.index-members-place.is
     (ap (λ y. y.extra) c.requires.finds ∙ ap (λ x. map (is_left o) (members_or_none x)) c.requires.members) c.is_extra.ensures in
     elim c.if-is_extra.branch [
-      then-is_extra+in_ok-extra w ↦
+      | then-is_extra+in_ok-extra w ↦
           passed_turn start _ _ _ _ _ _ fs (extra_by_policy c.args.self.now o) (is_left o) ms c.loop-place.place c.index-members-place.result
           (omega arith) c.index-members-place.is (told ∙ w.if-is_extra.true) w.out-is w.kept-is (w.in_ok-extra.ensures start fs _ (c.loop-place.invariant start fs h mark) mark)
-    | else-is_extra w ↦
+      | else-is_extra w ↦
           failed_turn start _ _ _ _ _ _ fs (extra_by_policy c.args.self.now o) (is_left o) ms c.loop-place.place c.index-members-place.result
           (omega arith) c.index-members-place.is (told ∙ w.if-is_extra.false) w.out-is w.kept-is (c.loop-place.invariant start fs h mark)
     ]
