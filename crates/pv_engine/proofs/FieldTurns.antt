@@ -28,22 +28,42 @@ use Rattle.pv_fault.specs.Under.{at_path, all_at_path, all_under, outcome_under}
 use Rattle.pv_collect.specs.Gathering as gathering
 use Rattle.pv_collect.specs.Kept.{good_of}
 use Rattle.pv_collect.proofs.Parts.{empty_first}
-use Rattle.pv_fields.specs.FieldList.{FieldAnswer, Given, Defaulted, Kept, Forbidden, Answered, Extra, errors_of, field_errors, answer_errors, extra_errors, all_errors, all_outcomes, unless_errors, fields_of, count_in}
+use Rattle.pv_fields.specs.FieldList as list
+use Rattle.pv_fields.specs.FieldList.{FieldAnswer, ExtraAnswer, Given, Defaulted, Missing, Absent, Kept, Forbidden, Answered, Extra, errors_of, field_errors, answer_errors, extra_errors, all_errors, all_outcomes, unless_errors, fields_of, count_in}
 use Rattle.pv_fields.specs.Finding.{found_field}
 use Rattle.pv_fields.specs.Kept.{KeptParts, given_kept, default_kept, extra_kept, kept_of, finished}
 use Rattle.pv_fields.specs.Paths.{front_of, place_of}
+use Rattle.pv_fields.proofs.Parts.{field_errors_more, extra_errors_more, given_more, defaulted_more, missing_more, absent_more, extra_more, forbidden_more, finished_all, failed_all}
 use Rattle.pv_engine.specs.declared.out.Out.{Out}
 use Rattle.pv_engine.specs.Walks.{Adds, Walked, Walks}
 use Rattle.pv_engine.specs.Rules.{Child}
 use Rattle.pv_engine.specs.Fields.{answer_of, unfound, answered, answers, extra_child, extra_by}
 use Rattle.pv_engine.specs.GoingFields.{WalkedAt, GoingFields}
 use Rattle.pv_engine.proofs.Walking.{good_past, errors_past, adds_walked, adds_both, adds_same, none_added, same_length, walked_good, walked_bad}
-use Rattle.pv_engine.proofs.FieldParts.{flat_more, as_answered, as_extra, given_more, default_more, lacking_more, kept_more, forbidden_more, count_front}
 
 -- the errors of an outcome, as both crates name them
 pub same_errors : (o : Outcome) → gathering.errors_of o ≡ errors_of o
 same_errors (Good v g n) = refl
 same_errors (Bad es) = refl
+
+same_good : (o : Outcome) → good_of o ≡ list.good_of o
+same_good (Good v g n) = refl
+same_good (Bad es) = refl
+
+abbrev pub as_answered : FieldRule → FieldAnswer → Answered
+as_answered f a = record { field = f; answer = a }
+
+abbrev pub as_extra : List ℕ → Tree → ExtraAnswer → Extra
+as_extra name t a = record { name = name; input = t; answer = a }
+
+-- a field that is missing or absent keeps nothing
+lacking_more : (fs : List Answered) (f : FieldRule) (required : Bool) → kept_of (fs ++ as_answered f (unfound required None) ∷ []) [] ≡ kept_of fs []
+lacking_more fs f true = missing_more fs f
+lacking_more fs f false = absent_more fs f
+
+-- one more at the end of a list that is laid out
+flat_more : {X A : Type 0} (f : X → List A) (xs : List X) (x : X) → flat_map f (xs ++ x ∷ []) ≡ flat_map f xs ++ f x
+flat_more f xs x = flat_map-append f xs (x ∷ []) ∙ ap (λ ys. flat_map f xs ++ ys) (append-nil (f x))
 
 -- steps at the end of the path are steps in front of each error
 steps_past : (path steps : List Step) (es : List LineError) → all_at_path (path ++ steps) es ≡ all_at_path path (all_at_path steps es)
@@ -91,8 +111,7 @@ module _ (start mid new : Out) (s : Settings) (t : Tree) (kept more : KeptParts)
       → (length new.errors ≡ length start.errors → kept ≡ kept_of fs [] → more ≡ kept_of (fs ++ a ∷ []) []) → GoingFields start new s t more (fs ++ a ∷ []) []
   field_next a adds take =
       let before : List LineError = all_errors s t fs [] in
-      let grown : all_errors s t (fs ++ a ∷ []) [] ≡ before ++ field_errors s t a =
-      append-nil _ ∙ flat_more (field_errors s t) fs a ∙ ap (λ xs. xs ++ field_errors s t a) (sym (append-nil (flat_map (field_errors s t) fs))) in
+      let grown : all_errors s t (fs ++ a ∷ []) [] ≡ before ++ field_errors s t a = field_errors_more s t fs a in
       let added : Adds start new (before ++ field_errors s t a) = adds_both start mid new _ _ h.adds adds in
       record {
         adds = adds_same start new _ _ (sym grown) added;
@@ -107,7 +126,7 @@ module _ (start mid new : Out) (s : Settings) (t : Tree) (kept more : KeptParts)
     given_next p o w take_it =
         field_next (as_answered f (Given p o)) w.adds
         (λ same is. take_it (n ∙ same ∙ sym m) ∙ ap (λ k. given_kept k name found) is ∙ ap (λ x. given_kept (kept_of fs []) x found) named
-        ∙ ap (given_kept (kept_of fs []) f.name) w.answer ∙ sym (given_more fs f p o))
+        ∙ ap (given_kept (kept_of fs []) f.name) (w.answer ∙ same_good o) ∙ sym (given_more fs f p o))
 
     -- a field whose tree was found
     pub found_next : (p : ℕ) (u : Tree) (child : Child) (default : Option Outcome) (front : List Step) → found_field s t f ≡ Some (p, u) → front ≡ front_of s f p
@@ -122,7 +141,7 @@ module _ (start mid new : Out) (s : Settings) (t : Tree) (kept more : KeptParts)
     default_kept_next o w take_it =
         field_next (as_answered f (Defaulted o)) w.adds
         (λ same is. take_it (n ∙ same ∙ sym m) ∙ ap (λ k. default_kept k name found) is ∙ ap (λ x. default_kept (kept_of fs []) x found) named
-        ∙ ap (default_kept (kept_of fs []) f.name) w.answer ∙ sym (default_more fs f o))
+        ∙ ap (default_kept (kept_of fs []) f.name) (w.answer ∙ same_good o) ∙ sym (defaulted_more fs f o))
 
     -- a field that was not found and has a default
     pub default_next : (o : Outcome) (child : Child) (default : Option Outcome) (place : List Step) → found_field s t f ≡ None → default ≡ Some o → place ≡ place_of s f
@@ -149,9 +168,7 @@ module _ (start mid new : Out) (s : Settings) (t : Tree) (kept more : KeptParts)
       → (length new.errors ≡ length start.errors → kept ≡ kept_of fs es → more ≡ kept_of fs (es ++ e ∷ [])) → GoingFields start new s t more fs (es ++ e ∷ [])
   extra_next e adds take =
       let before : List LineError = all_errors s t fs es in
-      let grown : all_errors s t fs (es ++ e ∷ []) ≡ before ++ extra_errors e =
-      ap (λ xs. flat_map (field_errors s t) fs ++ xs) (flat_more extra_errors es e)
-      ∙ sym (append_assoc (flat_map (field_errors s t) fs) (flat_map extra_errors es) (extra_errors e)) in
+      let grown : all_errors s t fs (es ++ e ∷ []) ≡ before ++ extra_errors e = extra_errors_more s t fs es e in
       let added : Adds start new (before ++ extra_errors e) = adds_both start mid new _ _ h.adds adds in
       record {
         adds = adds_same start new _ _ (sym grown) added;
@@ -170,7 +187,7 @@ module _ (start mid new : Out) (s : Settings) (t : Tree) (kept more : KeptParts)
   allowed_next name u found o mark errors m n w take_it =
       extra_next (as_extra name u (Kept o)) (under_name name found o w)
       (λ same is. take_it (n ∙ same ∙ sym m) ∙ ap (λ k. extra_kept k name found) is
-      ∙ ap (extra_kept (kept_of fs es) name) (w.answer ∙ sym (good_past (Name name) o)) ∙ sym (kept_more fs es name u o))
+      ∙ ap (extra_kept (kept_of fs es) name) (w.answer ∙ sym (good_past (Name name) o) ∙ same_good o) ∙ sym (extra_more fs es name u o))
 
 pub forbidden_next : (start mid new : Out) (s : Settings) (t : Tree) (kept : KeptParts) (fs : List Answered) (es : List Extra) → GoingFields start mid s t kept fs es
     → (name : List ℕ) (u : Tree) → Adds mid new (all_under (Name name) (error_here kind.ExtraForbidden u ∷ []))
@@ -280,28 +297,14 @@ module _ (start new : Out) (s : Settings) (t : Tree) (kept : KeptParts) (cs : Li
   last_field l h = subst (λ xs. GoingFields start new s t kept xs []) (answers_all s t cs ds j fs l) h
 
 -- the end
-unless_bad : (es : List LineError) (o : Outcome) → (es ≡ [] → ⊥) → unless_errors es o ≡ Bad es
-unless_bad [] o some = absurd (some refl)
-unless_bad (e ∷ es) o some = refl
-
-no_errors : (es : List LineError) (o : Outcome) → es ≡ [] → unless_errors es o ≡ o
-no_errors [] o h = refl
-no_errors (e ∷ es) o h = cc
-
 abbrev whole_of : good.Good → Outcome
 whole_of g = Good g.value g.grade g.fields
 
 module _ (old new : Out) (r : FieldsRule) (s : Settings) (t : Tree) (kept : KeptParts) (fs : List Answered) (es : List Extra) (h : GoingFields old new s t kept fs es) where
   pub fields_bad : (length new.errors ≡ length old.errors → ⊥) → Walked old new None (fields_of r s t fs es)
-  unfolding fields_of
-  fields_bad more = walked_bad old new _ _ h.adds (unless_bad _ _ (λ none. more (same_length old new _ h.adds none)))
+  fields_bad more = walked_bad old new _ _ h.adds (failed_all r s t fs es (λ none. more (same_length old new _ h.adds none)))
 
   pub fields_good : (x : good.Good) → length new.errors ≡ length old.errors → x ≡ finished r.kind kept → Walked old new (Some x) (fields_of r s t fs es)
-  unfolding fields_of finished
   fields_good x same is =
       let none : all_errors s t fs es ≡ [] = none_added old new _ h.adds same in
-      walked_good old new x _ _ h.adds none
-      (no_errors _ _ none
-      ∙ ap (λ n. whole_of (let y : good.Good = record { value = (finished r.kind (kept_of fs es)).value; grade = (kept_of fs es).grade; fields = n } in y))
-      (count_front (length (kept_of fs es).given) (flat_map count_in (all_outcomes fs es)))
-      ∙ ap whole_of (sym (is ∙ ap (finished r.kind) (h.whole none))))
+      walked_good old new x _ _ h.adds none (finished_all r s t fs es none ∙ ap whole_of (sym (is ∙ ap (finished r.kind) (h.whole none))))

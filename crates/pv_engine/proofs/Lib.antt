@@ -4,6 +4,5 @@ pub mod Parts
 pub mod Takers
 pub mod Turns
 pub mod ScalarChildren
-pub mod FieldParts
 pub mod FieldTurns
 pub mod Around
