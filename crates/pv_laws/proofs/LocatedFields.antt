@@ -1,6 +1,5 @@
 -- The errors of fields and of extra members, seen from the whole object.
 use Rattle.std.proofs.Common.{◌≡◌, ℕ, zero, suc, ◌+◌, ◌<◌, inl, inr, Bool, true, false, ◌&&◌, cond, List, [], ◌∷◌, ◌++◌, map, flat_map, length, get_or, Option, None, Some, slice_get, Contains, refl, sym, ap, ◌∙◌, subst, append-nil, arith}
-use Rattle.std.proofs.Math.Option.{some-injective}
 use Rattle.std.proofs.lemmas.Grind.{flat_map-append}
 use Rattle.std.proofs.lemmas.List.Elements.{All-contains_itself, recursion_from_All}
 use Rattle.std.proofs.lemmas.Slice.Eq.{bytes_eq-Decides}
@@ -36,12 +35,15 @@ use Rattle.pv_laws.specs.Locations.{is_any_path, keeps_fields}
 use Rattle.pv_laws.proofs.Each.{each_append, each_map, each_more, found_is}
 use Rattle.pv_laws.proofs.LocatedParts.{IsAt, Locates, here}
 
+some_same : {X : Type 0} (x y : X) → (let o : Option X = Some x in o) ≡ Some y → x ≡ y
+some_same x y h = cc
+
 -- the value of a name is that of a member
 member_by : (b : Bool) (name : List ℕ) (m : List ℕ × Tree) (ms : List (List ℕ × Tree)) (u : Tree) → bytes_eq name m.0 ≡ b → (value_at ms name ≡ Some u → Contains ms (name, u))
     → (if_so : (let o : Option Tree = cond b (Some m.1) (value_at ms name) in o) ≡ Some u) → Contains (m ∷ ms) (name, u)
 member_by true name m ms u e later h =
     let same : name ≡ m.0 = (bytes_eq-Decides name m.0).0 e in
-    (zero, omega arith, ap (λ n. (n, m.1)) (sym same) ∙ ap (λ v. (name, v)) (some-injective m.1 u h))
+    (zero, omega arith, ap (λ n. (n, m.1)) (sym same) ∙ ap (λ v. (name, v)) (some_same m.1 u h))
 member_by false name m ms u e later h = let c = later h in (suc c.0, omega (arith, c.1), c.2)
 
 member_found : (name : List ℕ) (ms : List (List ℕ × Tree)) (u : Tree) → value_at ms name ≡ Some u → Contains ms (name, u)
@@ -69,7 +71,7 @@ along_by None s path t part e p later h = cc
 along_by (Some u) s path t part e p later h = inl (u, is_part s t u p, later u h)
 
 along : (t part : Tree) (path : List Step) (e : LineError) → IsAt part e → follow path t ≡ Some part → IsAt t (at_path path e)
-along t part [] e at h = subst (λ x. IsLocated e.loc x e.input) (sym (some-injective t part h)) at
+along t part [] e at h = subst (λ x. IsLocated e.loc x e.input) (sym (some_same t part h)) at
 along t part (s ∷ path) e at h = along_by (part_at s t) s path t part e refl (λ u f. along u part path e at f) h
 
 along_all : (t part : Tree) (path : List Step) (es : List LineError) → follow path t ≡ Some part → AllByRecursion (IsAt part) es → AllByRecursion (IsAt t) (all_at_path path es)
@@ -87,9 +89,9 @@ FoundAt ps t i p u = (j : ℕ) × (p ≡ i + j) × ((path : List Step) × (slice
 
 found_by_path : (o : Option Tree) (path : List Step) (ps : List (List Step)) (t : Tree) (i p : ℕ) (u : Tree) → follow path t ≡ o
     → (found_from (i + 1) ps t ≡ Some (p, u) → FoundAt ps t (i + 1) p u) → found_by i o (found_from (i + 1) ps t) ≡ Some (p, u) → FoundAt (path ∷ ps) t i p u
-found_by_path None path ps t i p u e later h = let c = later h in (suc c.0, omega (arith, c.1.0), c.1.1)
+found_by_path None path ps t i p u e later h = let c = later h in (suc c.0, omega (arith, c.1), c.2)
 found_by_path (Some v) path ps t i p u e later h =
-    let both = some-injective (i, v) (p, u) h in
+    let both = some_same (i, v) (p, u) h in
     let number : i ≡ p = ap (λ x. x.0) both in
     (zero, omega (arith, number), (path, refl, e ∙ ap (λ x. Some x.1) both))
 
@@ -135,11 +137,11 @@ module _ (s : Settings) (t : Tree) (d : Distinct Tree) (opens : out-Tree t ≡ T
   unfolding found
   given_located f child p u is h =
       let at = found_path (paths_of s f) t 0 p u h in
-      let number : at.0 ≡ p = omega (arith, at.1.0) in
-      let path = at.1.1.0 in
+      let number : at.0 ≡ p = omega (arith, at.1) in
+      let path = at.2.0 in
       subst (λ front. AllByRecursion (IsAt t) (all_at_path front (errors_of (child u))))
-      (sym (front_is f p path (ap (slice_get (paths_of s f)) (sym number) ∙ at.1.1.1.0)))
-      (along_all t u path (errors_of (child u)) at.1.1.1.1 (outcome_located u (child u) (is u)))
+      (sym (front_is f p path (ap (slice_get (paths_of s f)) (sym number) ∙ at.2.1)))
+      (along_all t u path (errors_of (child u)) at.2.2 (outcome_located u (child u) (is u)))
 
   missing_by : (f : FieldRule) (ps : List (List Step)) → paths_of s f ≡ ps → is_any_path ps ≡ true → found_from 0 ps t ≡ None
       → AllByRecursion (IsAt t) (all_at_path (place_of s f) (error_here kind.Missing t ∷ []))

@@ -139,7 +139,7 @@ at_text text (step ∷ loc) input h =
     (⊎_elim (λ p. no_part text step p.0 (subst (λ x. IsPart step x p.0) (opens_text text) p.1))
     (⊎_elim (λ p. none_lacking text step loc (subst (IsLacking (step ∷ loc)) (opens_text text) p.0))
     (⊎_elim (λ p. no_key text step loc input (subst (λ x. IsKey (step ∷ loc) x input) (opens_text text) p))
-    (λ p. no_object text p.0.0 p.0.1.0)))
+    (λ p. no_object text p.0.0 p.0.1)))
     h)
 
 key_located : (name : List ℕ) (o : Outcome) → IsOutcomeOf (tree.Str name) o → AllByRecursion (IsAt (tree.Str name)) (key_errors name o)
