@@ -5,3 +5,4 @@ pub mod Reaching
 pub mod Marks
 pub mod Parts
 pub mod SetNames
+pub mod Telling

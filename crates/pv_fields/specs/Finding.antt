@@ -1,5 +1,5 @@
 -- What is found of an object: the value of each field, and the keys that no field takes.
-use Rattle.std.specs.Prelude.{ℕ, ◌+◌, Bool, false, not, List, [], ◌∷◌, map, bytes_eq, slice_get, Option, None, Some}
+use Rattle.std.specs.Prelude.{ℕ, ◌+◌, Bool, false, not, List, [], ◌∷◌, ◌++◌, map, bytes_eq, slice_get, Option, None, Some}
 use Rattle.std.specs.List.{filter, flat_map, list_any}
 use Rattle.std.specs.Option.{option_and_then, option_to_list}
 use Rattle.pv_tree.specs.declared.Step.{Step}
@@ -59,6 +59,17 @@ begins name (Index place ∷ steps) = false
 -- no path begins with this name
 abbrev pub is_extra : List (List Step) → List ℕ → Bool
 is_extra paths name = not (list_any (begins name) paths)
+
+-- the path of a number, where there is such a number
+abbrev pub path_at : List (List Step) → Option ℕ → List (List Step)
+path_at ps None = []
+path_at ps (Some path) = option_to_list (slice_get ps path)
+
+-- the paths of fields at these numbers, of each field at most one
+abbrev pub paths_at : Settings → List FieldRule → List (Option ℕ) → List (List Step)
+paths_at s [] ns = []
+paths_at s (f ∷ fs) [] = []
+paths_at s (f ∷ fs) (n ∷ ns) = path_at (paths_of s f) n ++ paths_at s fs ns
 
 -- the members of an object
 abbrev pub members_or_none : Option (List (List ℕ × Tree)) → List (List ℕ × Tree)

@@ -11,8 +11,8 @@ use Rattle.pv_fault.specs.Counts.{sum_of, sum_of_two}
 use Rattle.pv_fields.specs.FieldList.{Answered, Extra, all_outcomes, field_value, extra_value, given_names, name_under, grade_in, count_in, value_of}
 pub use Rattle.pv_fields.specs.FieldList.{good_of}
 
--- the fields with their values, the names of those that were found, the extra members, and the grade
--- and the count of all of them
+-- the fields with their values, the names of those that were found, the extra members, and the
+-- grade and the count of all of them
 pub record KeptParts : Type 0 where
   pub fields : List (List ℕ × Value)
   pub given : List (List ℕ)

@@ -33,8 +33,8 @@ fn members_of<'a>(tree: &'a Tree) -> &'a [(Text, Tree)]
     }
 }
 
-#[tactic(auto, using(crate::proofs::Placing::stands))]
 /// Whether the member at this place has the name.
+#[tactic(auto, using(crate::proofs::Placing::stands))]
 fn stands_at(members: &[(Text, Tree)], place: usize, name: &Text) -> bool
     ensures { HasDistinctNames members.now → IsTrue result → place_of members.now name.now ≡ Some place }
 {
@@ -162,8 +162,8 @@ impl<'a> Directory<'a> {
         Ok(place)
     }
 
-    #[tactic(auto, using(crate::proofs::Placing::within))]
     /// The end of a path that begins with a name.
+    #[tactic(auto, using(crate::proofs::Placing::within))]
     fn reach_by_name(
         &mut self,
         alloc: Global,
@@ -199,8 +199,8 @@ impl<'a> Directory<'a> {
         }
     }
 
-    #[tactic(auto, using(crate::proofs::Reaching::taken_is), unfolding(crate::specs::Finding::found))]
     /// The first path whose steps all lead on, and the place of the member that it begins with.
+    #[tactic(auto, using(crate::proofs::Reaching::taken_is), unfolding(crate::specs::Finding::found))]
     pub(crate) fn first_found(
         &mut self,
         alloc: Global,

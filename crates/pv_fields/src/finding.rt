@@ -68,8 +68,9 @@ impl FieldPlan {
     ghost use Rattle.std.specs.Prelude.{◌≡◌, IfOk};
     ghost use Rattle.pv_fields.specs.Finding.{finds_of};
 
-    /// Finds all fields of an object and its extra keys, in time in proportion to the number of both and, unless
-    /// they come in the same order, to its logarithm.
+    /// Finds all fields of an object and its extra keys. The object's own members are taken in the order in which
+    /// they come, and from an index of their names where many come in another order. In the objects inside it, to
+    /// which paths of several steps lead, one member after another is compared.
     pub fn find<'a>(&self, alloc: Global, input: &'a Tree) -> Result<Finds<'a>, Memory>
         ensures { IfOk result (λ finds. finds ≡ finds_of self.now.0 self.now.1 input.now) }
     {

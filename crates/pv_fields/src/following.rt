@@ -1,6 +1,7 @@
 //! Paths into trees.
 
 ghost use Rattle.std.specs.Prelude.{◌≡◌};
+ghost use Rattle.std.specs.List.{list_any};
 ghost use Rattle.std.specs.Option.{option_copied};
 ghost use Rattle.pv_tree.specs.Merged.{value_at};
 ghost use Rattle.pv_fields.specs.Finding as spec;
@@ -42,8 +43,8 @@ pub(crate) fn follow<'a>(steps: &[Step], tree: &'a Tree) -> Option<&'a Tree>
     Some(here)
 }
 
-#[tactic(auto, unfolding(crate::specs::Finding::found))]
 /// The first path whose steps all lead on.
+#[tactic(auto, unfolding(crate::specs::Finding::found))]
 pub(crate) fn first_found<'a>(paths: &[Loc], tree: &'a Tree) -> Found<'a>
     ensures { hit result ≡ spec.found paths.now tree.now }
 {
@@ -53,4 +54,28 @@ pub(crate) fn first_found<'a>(paths: &[Loc], tree: &'a Tree) -> Found<'a>
         }
     }
     Found::Missing
+}
+
+/// Whether the steps begin with this name.
+fn begins(name: &Text, steps: &[Step]) -> bool
+    ensures { result ≡ spec.begins name.now steps.now }
+{
+    match steps.first() {
+        None => false,
+        Some(Step::Name(first)) => name == first,
+        Some(Step::Index(_)) => false,
+    }
+}
+
+/// Whether the path of this number, where there is one, begins with this name.
+pub(crate) fn begins_at(name: &Text, paths: &[Loc], path: Option<usize>) -> bool
+    ensures { result ≡ list_any (spec.begins name.now) (spec.path_at paths.now path) }
+{
+    let Some(path) = path else {
+        return false;
+    };
+    match paths.get(path) {
+        Some(steps) => begins(name, steps.as_slice()),
+        None => false,
+    }
 }

@@ -2,7 +2,7 @@
 
 use crate::blank::Blank;
 use crate::field_paths::{FieldPaths, all_field_paths};
-use crate::following::first_found;
+use crate::following::{begins_at, first_found};
 use crate::found::Found;
 use pv_rules::{ExtraBehavior, FieldRule, FieldsKind, FieldsRule, Settings};
 use pv_text::{Memory, Text};
@@ -51,7 +51,7 @@ impl FieldPlan {
     ghost use Rattle.std.specs.Prelude.{◌≡◌, ◌<◌, Some, length, slice_get, IfOk};
     ghost use Rattle.std.specs.Option.{option_map};
     ghost use Rattle.pv_fields.specs.Paths.{front_of, place_of, extra_of};
-    ghost use Rattle.pv_fields.specs.Finding.{found_field};
+    ghost use Rattle.pv_fields.specs.Finding.{found_field, is_extra, paths_at};
     ghost use Rattle.pv_fields.specs.Planned.{hit};
 
     /// The plan of a rule under settings. The paths of all fields are laid out here.
@@ -136,5 +136,21 @@ impl FieldPlan {
         ensures { option_map (found_field self.now.1 input.now) (slice_get self.now.0.fields field) ≡ Some (hit result) }
     {
         first_found(self.paths.as_slice()[field].paths.as_slice(), input)
+    }
+
+    /// Whether a key begins none of the paths at which fields were found. `found` has the number of the path for each
+    /// field.
+    pub fn is_extra(&self, key: &Text, found: &[Option<usize>]) -> bool
+        ensures { result ≡ is_extra (paths_at self.now.1 self.now.0.fields found.now) key.now }
+    {
+        for (field, own) in self.paths.as_slice().iter().enumerate() {
+            if field >= found.len() {
+                return true;
+            }
+            if begins_at(key, own.paths.as_slice(), found[field]) {
+                return false;
+            }
+        }
+        true
     }
 }

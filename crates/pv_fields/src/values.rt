@@ -65,9 +65,9 @@ fn entries_of(
     Ok(entries)
 }
 
-#[tactic(auto, using(crate::proofs::Among::entries_among))]
 /// The entries that a dict keeps. Where their keys are some of these names, in their order, it takes one
 /// pass.
+#[tactic(auto, using(crate::proofs::Among::entries_among))]
 fn merged_among(
     alloc: Global,
     names: &Members,
