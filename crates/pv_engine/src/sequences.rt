@@ -16,11 +16,11 @@ use crate::out::Out;
 use crate::rules::Rules;
 use crate::scene::{ScalarNode, Scene};
 use pv_collect::{KeptItems, needs_hash};
-use pv_fault::{Good, Kind};
+use pv_fault::{Good, Grade, Kind};
 use pv_rules::{Collection, GatherRule};
-use pv_scalar::scalar_answer;
+use pv_scalar::{plain_int, scalar_answer};
 use pv_text::Memory;
-use pv_tree::{Step, Tree};
+use pv_tree::{Step, Tree, Value};
 
 impl<
     's,
@@ -116,7 +116,7 @@ impl<
         }
     }
 
-    /// The item at this place by the first child.
+    /// The item at this place by the first child. Most often it is an int that is written as one.
     pub(crate) fn item(
         &self,
         out: &mut Out<'a>,
@@ -130,7 +130,14 @@ impl<
             (item_in kind item.now (gives.first (map (below self.now) children.now) item.now))) }
     {
         match self.scalar_child(children) {
-            Some(node) => self.scalar_item(out, kind, node, place, item),
+            Some(node) => match plain_int(node.rule, item) {
+                Some(n) => Ok(Some(Good {
+                    value: Value::Int(n),
+                    grade: Grade::Exact,
+                    fields: None,
+                })),
+                None => self.scalar_item(out, kind, node, place, item),
+            },
             None => self.entered_item(out, kind, children, place, item),
         }
     }

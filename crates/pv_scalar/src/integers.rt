@@ -1,8 +1,8 @@
 //! Trees as ints, and the bounds of ints.
 
-ghost use Rattle.std.specs.Prelude.{◌≡◌, not, int_lt};
+ghost use Rattle.std.specs.Prelude.{◌≡◌, not, int_lt, Bool, IfSome, Ok};
 ghost use Rattle.pv_numeric.specs.Multiples.{is_multiple};
-ghost use Rattle.pv_scalar.specs.Tests.{unless};
+ghost use Rattle.pv_scalar.specs.Tests.{tested, unless};
 ghost use Rattle.pv_scalar.specs.Integers as spec;
 
 use crate::answers::Graded;
@@ -44,6 +44,20 @@ fn text_int(whole: Option<Whole>) -> Graded<i128>
     match whole {
         Some(whole) => whole_int(Grade::Lax, whole),
         None => Err(Kind::IntParsing),
+    }
+}
+
+/// The int that a number is, where it is written as one.
+fn written_int(tree: &Tree) -> Option<i128>
+    ensures { IfSome result (λ n. (strict : Bool) → Ok (n, Grade.Exact) ≡ spec.int_of strict tree.now) }
+{
+    match tree {
+        Tree::Num(lexeme) => integer(lexeme),
+        Tree::Bool(_) => None,
+        Tree::Str(_) => None,
+        Tree::Null => None,
+        Tree::Array(_) => None,
+        Tree::Object(_) => None,
     }
 }
 
@@ -150,5 +164,18 @@ pub(crate) fn int_fault(rule: &IntRule, n: i128) -> Option<Kind>
     match upper_fault(rule, n) {
         Some(fault) => Some(fault),
         None => lower_fault(rule, n),
+    }
+}
+
+/// The int that a number is, where it is written as one and passes the tests.
+pub(crate) fn passing_int(rule: &IntRule, tree: &Tree) -> Option<i128>
+    ensures { IfSome result (λ n. (strict : Bool) → Ok (n, Grade.Exact) ≡ tested (spec.int_fault rule.now) (spec.int_of strict tree.now)) }
+{
+    match written_int(tree) {
+        None => None,
+        Some(n) => match int_fault(rule, n) {
+            None => Some(n),
+            Some(_) => None,
+        },
     }
 }

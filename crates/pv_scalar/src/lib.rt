@@ -20,4 +20,4 @@ pub use answers::Graded;
 pub use built::Scalar;
 pub use laws::{ints_of_texts_are_numerals, strict_ints_are_written};
 pub use pv_formats::{Matchers, Pattern, PatternFault, compile_pattern};
-pub use validation::{scalar, scalar_answer};
+pub use validation::{plain_int, scalar, scalar_answer};

@@ -1,6 +1,6 @@
 //! The outcome of a scalar for a tree.
 
-ghost use Rattle.std.specs.Prelude.{◌≡◌, Ok, Err, if◌then◌else◌, IfOk};
+ghost use Rattle.std.specs.Prelude.{◌≡◌, Bool, Ok, Err, if◌then◌else◌, IfOk, IfSome};
 ghost use Rattle.pv_tree.specs.Plain.{plain};
 ghost use Rattle.pv_scalar.specs.Bodies.{rule_of};
 ghost use Rattle.pv_scalar.specs.Scalars as spec;
@@ -10,7 +10,7 @@ use crate::built::{Body, Scalar};
 use crate::enums::{enum_answer, literal_answer};
 use crate::flags::flag;
 use crate::formats::{url_answer, uuid_answer};
-use crate::integers::{int, int_fault};
+use crate::integers::{int, int_fault, passing_int};
 use crate::texts::{bytes_answer, str_answer};
 use pv_fault::{Grade, Kind, Outcome};
 use pv_formats::Matchers;
@@ -106,7 +106,19 @@ pub fn scalar_answer<'a>(
     answer(alloc, matchers, &s.body, &s.settings, strict, t)
 }
 
-/// The same as an outcome: the value, or one error at the tree itself.
+/// The int that the scalar gives for a number that is written as one, with the grade `Exact`: what
+/// `scalar_answer` gives too, in more steps.
+#[tactic(auto, unfolding(crate::specs::Scalars::answer_of, crate::specs::Scalars::int_answer))]
+pub fn plain_int(s: &Scalar, t: &Tree) -> Option<i128>
+    ensures { IfSome result (λ n. (strict : Bool) → Ok (Value.Int n, Grade.Exact) ≡ spec.answer_of s.now.0 s.now.1 strict t.now) }
+{
+    match &s.body {
+        Body::Int(rule) => passing_int(rule, t),
+        _ => None,
+    }
+}
+
+/// The answer as an outcome: the value, or one error at the tree itself.
 #[tactic(auto, unfolding(crate::specs::Scalars::scalar_of))]
 pub fn scalar<'a>(
     alloc: Global,
