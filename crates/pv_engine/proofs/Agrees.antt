@@ -7,10 +7,10 @@ use Rattle.pv_node.specs.declared.Node.{Node}
 use Rattle.pv_node.specs.declared.Body.{Body}
 use Rattle.pv_node.specs.declared.Body.TheOpen.{Body-F}
 use Rattle.pv_node.specs.Places.{Place, body_of, slots, slots_of}
-use Rattle.pv_plan.specs.Records.{Stands, all_places, child_at, op_of, own_strict, children_of}
+use Rattle.pv_plan.specs.Records.{Stands, all_places, child_at, op_of, own_strict, own_validates, children_of}
 use Rattle.pv_plan.specs.declared.Record.{Record}
-use Rattle.pv_engine.specs.Meaning.{meaning_at, node, node_at, strict_in}
-use Rattle.pv_engine.specs.Run.{run_table, operation, at_record}
+use Rattle.pv_engine.specs.Meaning.{meaning_at, node, node_at, default_at, default_with, strict_in}
+use Rattle.pv_engine.specs.Run.{run_table, operation, at_record, default_of, default_record, default_op}
 
 twice : {X Y Z : Type 0} (f : Y → Z) (g : X → Y) (xs : List X) → map f (map g xs) ≡ map (λ x. f (g x)) xs
 twice f g [] = refl
@@ -18,16 +18,32 @@ twice f g (x ∷ xs) = ap (λ ys. f (g x) ∷ ys) (twice f g xs)
 
 -- a place is its op on the places that it leads to
 by_op : (run : Option Bool) (child : Place → Tree → Outcome) (root : Node) (place : Place) (b : Body-F Body Node) (t : Tree)
-    → operation (op_of place.settings b) (strict_in run (own_strict place)) (map (λ slot. child (child_at place slot)) (slots b)) t ≡ node_at run child root place b t
+    → operation (op_of place.settings b) (strict_in run (own_strict place)) (own_validates place) (map (λ slot. child (child_at place slot)) (slots b))
+    (map (λ slot. default_at child (child_at place slot)) (slots b)) t ≡ node_at run child root place b t
 unfolding operation
 by_op run child root place (Body-F.Scalar r) t = refl
 by_op run child root place (Body-F.Sequence r items) t = refl
 by_op run child root place (Body-F.Tuple r items) t = refl
 by_op run child root place (Body-F.Dict r keys values) t = refl
 by_op run child root place (Body-F.Nullable inner) t = refl
+by_op run child root place (Body-F.Fields r schemas extras config cls) t = refl
+by_op run child root place (Body-F.Model cls root_model config inner) t = refl
+by_op run child root place (Body-F.Default d validates failing inner) t = refl
+
+-- what stands in for a place, by its op and by the places that it leads to
+by_default : (child : Place → Tree → Outcome) (place : Place) (b : Body-F Body Node)
+    → default_op (op_of place.settings b) (own_validates place) (map (λ slot. child (child_at place slot)) (slots b)) ≡ default_with child place b
+by_default child place (Body-F.Scalar r) = refl
+by_default child place (Body-F.Sequence r items) = refl
+by_default child place (Body-F.Tuple r items) = refl
+by_default child place (Body-F.Dict r keys values) = refl
+by_default child place (Body-F.Nullable inner) = refl
+by_default child place (Body-F.Fields r schemas extras config cls) = refl
+by_default child place (Body-F.Model cls root_model config inner) = refl
+by_default child place (Body-F.Default d validates failing inner) = refl
 
 -- numbers that lead to places, and functions that agree there
-agreeing : {C N : Type 0} (look : C → Option N) (f : C → Tree → Outcome) (g : N → Tree → Outcome)
+agreeing : {C N R : Type 0} (look : C → Option N) (f : C → R) (g : N → R)
     → ((c : C) (n : N) → look c ≡ Some n → f c ≡ g n) → (cs : List C) (ns : List N) → map look cs ≡ map Some ns → map f cs ≡ map g ns
 agreeing look f g h [] [] e = refl
 agreeing look f g h [] (n ∷ ns) e = absurd (let l = ap length e in omega (arith, l))
@@ -35,6 +51,21 @@ agreeing look f g h (c ∷ cs) [] e = absurd (let l = ap length e in omega (arit
 agreeing look f g h (c ∷ cs) (n ∷ ns) e =
     ap (λ x. x ∷ map f cs) (h c n (ap (λ xs. get_or xs 0 None) e))
     ∙ ap (λ xs. g n ∷ xs) (agreeing look f g h cs ns (ap (drop 1) e))
+
+-- at a depth at which records mean what places mean, what stands in for them is the same
+module _ (root : Node) (table : List Record) (stands : Stands root table) (child : ℕ → Tree → Outcome) (next : Place → Tree → Outcome)
+    (below : (c : ℕ) (m : Place) → slice_get (all_places root) c ≡ Some m → child c ≡ next m) where
+  defaults_agree : (c : ℕ) (m : Place) → slice_get (all_places root) c ≡ Some m → default_of table child c ≡ default_at next m
+  unfolding Stands
+  defaults_agree c m here =
+      let at = stands c m here in
+      let r = at.0 in
+      ap (default_record child) at.1
+      ∙ ap (λ fs. default_op r.op r.validate_default fs) (agreeing (slice_get (all_places root)) child next below r.children (children_of root m) at.2.children)
+      ∙ ap (λ v. default_op r.op v (map next (children_of root m))) at.2.validate_default
+      ∙ ap (λ o. default_op o (own_validates m) (map next (children_of root m))) at.2.op
+      ∙ ap (default_op (op_of m.settings (body_of m.node)) (own_validates m)) (twice next (child_at m) (slots_of m.node))
+      ∙ by_default next m (body_of m.node)
 
 pub agrees : (root : Node) (table : List Record) (run : Option Bool) → Stands root table
     → (d i : ℕ) (place : Place) (t : Tree) → slice_get (all_places root) i ≡ Some place → run_table table run d i t ≡ meaning_at run root d place t
@@ -46,9 +77,17 @@ agrees root table run stands (suc d) i place t here =
     let next = meaning_at run root d in
     let below : (c : ℕ) (m : Place) → slice_get (all_places root) c ≡ Some m → run_table table run d c ≡ next m =
     λ c m e. fun_ext (λ u. agrees root table run stands d c m u e) in
-    ap (λ o. at_record run (run_table table run d) o t) at.1
-    ∙ ap (λ fs. operation r.op (strict_in run r.strict) fs t) (agreeing (slice_get (all_places root)) (run_table table run d) next below r.children (children_of root place) at.2.children)
-    ∙ ap (λ s. operation r.op (strict_in run s) (map next (children_of root place)) t) at.2.strict
-    ∙ ap (λ o. operation o (strict_in run (own_strict place)) (map next (children_of root place)) t) at.2.op
-    ∙ ap (λ fs. operation (op_of place.settings (body_of place.node)) (strict_in run (own_strict place)) fs t) (twice next (child_at place) (slots_of place.node))
+    let look = slice_get (all_places root) in
+    let defaults = map (default_of table (run_table table run d)) r.children in
+    ap (λ o. at_record table run (run_table table run d) o t) at.1
+    ∙ ap (λ fs. operation r.op (strict_in run r.strict) r.validate_default fs defaults t) (agreeing look (run_table table run d) next below r.children (children_of root place) at.2.children)
+    ∙ ap (λ ds. operation r.op (strict_in run r.strict) r.validate_default (map next (children_of root place)) ds t)
+    (agreeing look (default_of table (run_table table run d)) (default_at next) (defaults_agree root table stands (run_table table run d) next below) r.children (children_of root place) at.2.children)
+    ∙ ap (λ s. operation r.op (strict_in run s) r.validate_default (map next (children_of root place)) (map (default_at next) (children_of root place)) t) at.2.strict
+    ∙ ap (λ v. operation r.op (strict_in run (own_strict place)) v (map next (children_of root place)) (map (default_at next) (children_of root place)) t) at.2.validate_default
+    ∙ ap (λ o. operation o (strict_in run (own_strict place)) (own_validates place) (map next (children_of root place)) (map (default_at next) (children_of root place)) t) at.2.op
+    ∙ ap (λ fs. operation (op_of place.settings (body_of place.node)) (strict_in run (own_strict place)) (own_validates place) fs (map (default_at next) (children_of root place)) t)
+    (twice next (child_at place) (slots_of place.node))
+    ∙ ap (λ ds. operation (op_of place.settings (body_of place.node)) (strict_in run (own_strict place)) (own_validates place) (map (λ slot. next (child_at place slot)) (slots_of place.node)) ds t)
+    (twice (default_at next) (child_at place) (slots_of place.node))
     ∙ by_op run next root place (body_of place.node) t

@@ -4,3 +4,5 @@ pub mod Parts
 pub mod Takers
 pub mod Turns
 pub mod ScalarChildren
+pub mod FieldTurns
+pub mod Around

@@ -30,16 +30,16 @@ use Rattle.pv_engine.specs.Walks.{written, Walked}
 
 -- a record that is entered means what it says by the records one level further down
 means_at : (scene : Scene) (depth number : ℕ) (t : Tree) → (depth ≡ 0 → ⊥)
-    → means scene depth number t ≡ at_record scene.run (run_table scene.table.now scene.run (depth - 1)) (slice_get scene.table.now number) t
+    → means scene depth number t ≡ at_record scene.table.now scene.run (run_table scene.table.now scene.run (depth - 1)) (slice_get scene.table.now number) t
 unfolding means run_table
 means_at scene zero number t some = absurd (some refl)
 means_at scene (suc d) number t some =
     let same : d ≡ suc d - 1 = omega arith in
-    ap (λ n. at_record scene.run (run_table scene.table.now scene.run n) (slice_get scene.table.now number) t) same
+    ap (λ n. at_record scene.table.now scene.run (run_table scene.table.now scene.run n) (slice_get scene.table.now number) t) same
 
 -- so where the record of the first child is a scalar, the child gives what the scalar gives
 pub first_scalar : (scene : Scene) (depth : ℕ) (cs : List ℕ) (found : Option ScalarNode) → 1 ≤ length cs → (depth ≡ 0 → ⊥)
-    → IfSome found (λ node. (child : ℕ → Child) (t : Tree) → at_record scene.run child (slice_get scene.table.now (get_or cs 0 0)) t ≡ scalar_of node.rule.now.0 node.rule.now.1 node.strict t)
+    → IfSome found (λ node. (child : ℕ → Child) (t : Tree) → at_record scene.table.now scene.run child (slice_get scene.table.now (get_or cs 0 0)) t ≡ scalar_of node.rule.now.0 node.rule.now.1 node.strict t)
     → IfSome found (λ node. (t : Tree) → first (map (means scene depth) cs) t ≡ scalar_of node.rule.now.0 node.rule.now.1 node.strict t)
 first_scalar scene depth [] found l some h = absurd (omega (arith, l))
 first_scalar scene depth (c ∷ cs) None l some h = h

@@ -1,22 +1,43 @@
 -- What a schema means, by its own places: the outcome for a tree at a depth. Each place that is
 -- entered takes one from the depth, and at depth 0 there is one error and nothing is looked at.
-use Rattle.std.specs.Prelude.{ℕ, zero, suc, Bool, [], ◌∷◌, map, Option, None, Some}
+use Rattle.std.specs.Prelude.{ℕ, zero, suc, Bool, List, [], ◌∷◌, ◌++◌, map, Option, None, Some}
 use Rattle.pv_tree.specs.declared.Tree.{Tree}
+use Rattle.pv_rules.specs.declared.FieldsRule.{FieldsRule}
 use Rattle.pv_fault.specs.declared.Kind.TheVariants as kind
 use Rattle.pv_fault.specs.declared.Outcome.{Outcome}
 use Rattle.pv_fault.specs.Single.{one_error}
 use Rattle.pv_node.specs.declared.Node.{Node}
 use Rattle.pv_node.specs.declared.Body.{Body}
 use Rattle.pv_node.specs.declared.Body.TheOpen.{Body-F}
-use Rattle.pv_node.specs.Places.{Slot, Place, body_of, root_place, items_slot, position_slots, keys_slot, values_slot, inner_slot}
+use Rattle.pv_node.specs.Places.{Slot, Place, body_of, root_place, items_slot, position_slots, keys_slot, values_slot, inner_slot, field_slots, extras_slots}
 use Rattle.pv_scalar.specs.Scalars.{scalar_of}
-use Rattle.pv_plan.specs.Records.{child_at, own_strict}
+use Rattle.pv_plan.specs.Records.{child_at, own_strict, own_validates, is_default}
 use Rattle.pv_engine.specs.Rules.{collection, nullable}
+use Rattle.pv_engine.specs.Fields.{missing_value, fields}
+use Rattle.pv_engine.specs.Wrapping.{model, default}
 
 -- the strictness of the run, where it has one, else that of the place
 abbrev pub strict_in : Option Bool → Bool → Bool
 strict_in None own = own
 strict_in (Some strict) own = strict
+
+-- What stands in at a place where no tree is there, by what the places mean that it leads to.
+module _ (child : Place → Tree → Outcome) where
+  -- by the body of its node: the default of a default, by the place of its inner schema
+  abbrev pub default_with : Place → Body-F Body Node → Option Outcome
+  default_with q (Body-F.Default d validates failing inner) =
+      Some (missing_value (own_validates q) (child (child_at q (inner_slot inner))) d)
+  default_with q (Body-F.Scalar r) = None
+  default_with q (Body-F.Sequence r items) = None
+  default_with q (Body-F.Tuple r items) = None
+  default_with q (Body-F.Dict r keys values) = None
+  default_with q (Body-F.Nullable inner) = None
+  default_with q (Body-F.Fields r schemas extras config cls) = None
+  default_with q (Body-F.Model cls root_model config inner) = None
+
+  -- by the node of the place
+  abbrev pub default_at : Place → Option Outcome
+  default_at q = default_with q (body_of q.node)
 
 -- A place of a schema, by what the places mean that it leads to; `run` is the strictness of the
 -- run.
@@ -24,6 +45,15 @@ module _ (run : Option Bool) (child : Place → Tree → Outcome) (root : Node) 
   -- what the child schema of a slot means, or what stands for an absent one
   abbrev pub by_slot : Slot Node → Tree → Outcome
   by_slot slot = child (child_at place slot)
+
+  -- what stands in at the child schema of a slot where no tree is there
+  abbrev pub default_by_slot : Slot Node → Option Outcome
+  default_by_slot slot = default_at child (child_at place slot)
+
+  -- a list of fields, whose slots are those of the fields and then that of the extra members
+  abbrev pub fields_by : FieldsRule → List (Slot Node) → Tree → Outcome
+  fields_by r slots t =
+      fields r place.settings (map by_slot slots) (map default_by_slot slots) t
 
   -- by the body of its node
   abbrev pub node_at : Body-F Body Node → Tree → Outcome
@@ -33,6 +63,12 @@ module _ (run : Option Bool) (child : Place → Tree → Outcome) (root : Node) 
   node_at (Body-F.Dict r keys values) t =
       collection r (by_slot (keys_slot keys) ∷ by_slot (values_slot values) ∷ []) t
   node_at (Body-F.Nullable inner) t = nullable (by_slot (inner_slot inner)) t
+  node_at (Body-F.Fields r schemas extras config cls) t =
+      fields_by r (field_slots r.fields schemas ++ extras_slots extras) t
+  node_at (Body-F.Model cls root_model config inner) t =
+      model cls root_model (by_slot (inner_slot inner)) t
+  node_at (Body-F.Default d validates failing inner) t =
+      default (is_default failing) (own_validates place) (by_slot (inner_slot inner)) d t
 
   -- by its node
   unfoldable pub node : Tree → Outcome

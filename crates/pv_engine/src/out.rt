@@ -1,6 +1,6 @@
 //! What every step of a walk writes.
 
-ghost use Rattle.std.specs.Prelude.{◌≡◌, [], ◌∷◌, OnOk};
+ghost use Rattle.std.specs.Prelude.{◌≡◌, [], ◌∷◌, ◌++◌, OnOk};
 ghost use Rattle.pv_fault.specs.Single.{error_here, one_error};
 ghost use Rattle.pv_fault.specs.Under.{all_under};
 ghost use Rattle.pv_engine.specs.Walks.{Adds, Walks};
@@ -29,6 +29,17 @@ impl<'a> Out<'a> {
             path: Loc::new(alloc),
             matchers: Matchers::new(alloc),
         }
+    }
+
+    /// Adds steps at the end of the path.
+    pub(crate) fn enter(&mut self, alloc: Global, steps: &[Step]) -> Result<(), Memory>
+        ensures path { OnOk result (self.new.path ≡ self.old.path ++ steps.now) }
+        ensures errors { OnOk result (self.new.errors ≡ self.old.errors) }
+    {
+        for step in steps {
+            self.path.push(step.copy(alloc)?)?;
+        }
+        Ok(())
     }
 
     /// The errors. The rest is let go, the matchers by their own crate.

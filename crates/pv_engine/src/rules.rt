@@ -5,6 +5,7 @@ ghost use Rattle.pv_tree.specs.declared.Tree.{Tree};
 ghost use Rattle.pv_scalar.specs.Scalars.{scalar_of};
 ghost use Rattle.pv_engine.specs.Rules as gives;
 ghost use Rattle.pv_engine.specs.Run as spec;
+ghost use Rattle.pv_engine.specs.Run.{default_of};
 ghost use Rattle.pv_engine.specs.Meaning.{strict_in};
 ghost use Rattle.pv_engine.specs.Walks.{Walks};
 ghost use Rattle.pv_engine.specs.Nests.{Nests, below};
@@ -174,14 +175,28 @@ impl<
     ) -> Result<Option<Good>, Memory>
         requires { Nests F.Fn self.now }
         ensures { Walks out.old out.new result (spec.operation slot.now.op
-            (strict_in self.now.scene.now.run slot.now.strict)
-            (map (below self.now) slot.now.children) tree.now) }
+            (strict_in self.now.scene.now.run slot.now.strict) slot.now.validate_default
+            (map (below self.now) slot.now.children)
+            (map (default_of self.now.scene.now.table.now (below self.now)) slot.now.children) tree.now) }
     {
         let children = slot.children.as_slice();
         match &slot.op {
             Op::Scalar(rule) => self.scalar_node(out, rule, self.scene.strictness(slot), tree),
             Op::Gather(rule) => self.collection(out, rule, children, tree),
             Op::Nullable => self.nullable(out, children, tree),
+            Op::Fields(plan) => self.fields(out, plan, children, tree),
+            Op::Model { cls, root_model } => self.model(out, cls, *root_model, children, tree),
+            Op::Default {
+                default,
+                use_on_error,
+            } => self.default(
+                out,
+                default,
+                *use_on_error,
+                slot.validate_default,
+                children,
+                tree,
+            ),
         }
     }
 
@@ -193,7 +208,7 @@ impl<
         tree: &Tree,
     ) -> Result<Option<Good>, Memory>
         requires { Nests F.Fn self.now }
-        ensures { Walks out.old out.new result (spec.at_record self.now.scene.now.run (below self.now)
+        ensures { Walks out.old out.new result (spec.at_record self.now.scene.now.table.now self.now.scene.now.run (below self.now)
             (slice_get self.now.scene.now.table.now number) tree.now) }
     {
         match self.scene.table.get(number as usize) {

@@ -36,7 +36,7 @@ impl<'a> Scene<'a> {
     #[tactic(auto, unfolding(crate::specs::Run::operation))]
     pub(crate) fn scalar(&self, number: u32) -> Option<ScalarNode<'a>>
         ensures { IfSome result (λ node. (child : ℕ → Child) (t : Tree) →
-            spec.at_record self.now.run child (slice_get self.now.table.now number) t
+            spec.at_record self.now.table.now self.now.run child (slice_get self.now.table.now number) t
             ≡ scalar_of node.rule.now.0 node.rule.now.1 node.strict t) }
     {
         match self.table.get(number as usize) {
@@ -48,6 +48,9 @@ impl<'a> Scene<'a> {
                 }),
                 Op::Gather(_) => None,
                 Op::Nullable => None,
+                Op::Fields(_) => None,
+                Op::Model { .. } => None,
+                Op::Default { .. } => None,
             },
         }
     }

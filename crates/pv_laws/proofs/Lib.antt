@@ -1,5 +1,6 @@
 pub mod Each
 pub mod LocatedParts
+pub mod LocatedFields
 pub mod Locating
 pub mod Keeping
 pub mod GoodPatterns

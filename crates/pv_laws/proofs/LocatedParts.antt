@@ -6,6 +6,7 @@ use Rattle.pv_tree.specs.declared.Step.{Step}
 use Rattle.pv_tree.specs.declared.Step.TheVariants.{Name, Index}
 use Rattle.pv_tree.specs.declared.Tree.{Tree, out-Tree, out-roll-Tree}
 use Rattle.pv_tree.specs.Names.{Distinct}
+use Rattle.pv_tree.specs.Parts.{members_at}
 use Rattle.pv_tree.specs.declared.Tree.TheVariants as tree
 use Rattle.pv_tree.specs.declared.Tree.TheVariants.{rolls-Str}
 use Rattle.pv_tree.specs.declared.Tree.TheOpen.{Tree-F}
@@ -126,6 +127,9 @@ no_key text (Name k) [] input is = is
 no_key text (Name k) (mark ∷ []) input is = is
 no_key text (Name k) (mark ∷ next ∷ loc) input is = is
 
+no_object : (text : List ℕ) (ms : List (List ℕ × Tree)) → members_at (out-Tree (tree.Str text)) ≡ Some ms → ⊥
+no_object text ms h = let is : None ≡ Some ms = sym (ap members_at (opens_text text)) ∙ h in cc
+
 -- so an error in a text is at the text itself
 at_text : (text : List ℕ) (loc : List Step) (input : Tree) → IsLocated loc (tree.Str text) input → (loc ≡ []) × (input ≡ tree.Str text)
 unfolding IsLocated
@@ -134,7 +138,8 @@ at_text text (step ∷ loc) input h =
     absurd
     (⊎_elim (λ p. no_part text step p.0 (subst (λ x. IsPart step x p.0) (opens_text text) p.1))
     (⊎_elim (λ p. none_lacking text step loc (subst (IsLacking (step ∷ loc)) (opens_text text) p.0))
-    (λ p. no_key text step loc input (subst (λ x. IsKey (step ∷ loc) x input) (opens_text text) p)))
+    (⊎_elim (λ p. no_key text step loc input (subst (λ x. IsKey (step ∷ loc) x input) (opens_text text) p))
+    (λ p. no_object text p.0.0 p.0.1)))
     h)
 
 key_located : (name : List ℕ) (o : Outcome) → IsOutcomeOf (tree.Str name) o → AllByRecursion (IsAt (tree.Str name)) (key_errors name o)
@@ -148,7 +153,7 @@ module _ (t : Tree) (d : Distinct Tree) (opens : out-Tree t ≡ Tree-F.Object d)
   is_key m within e h =
       let p = at_text m.0 e.loc e.input h in
       let mark = Name (codes "[key]") in
-      inr (inr (subst (λ x. IsKey (Name m.0 ∷ mark ∷ e.loc) x e.input) (sym opens) (subst (λ loc. IsKey (Name m.0 ∷ mark ∷ loc) (Tree-F.Object d) e.input) (sym p.0) (refl, p.1, (m.1, within)))))
+      inr (inr (inl (subst (λ x. IsKey (Name m.0 ∷ mark ∷ e.loc) x e.input) (sym opens) (subst (λ loc. IsKey (Name m.0 ∷ mark ∷ loc) (Tree-F.Object d) e.input) (sym p.0) (refl, p.1, (m.1, within))))))
 
   -- an error in the value of a member, under its name
   is_value : (m : List ℕ × Tree) → Contains d.members m → (e : LineError) → IsAt m.1 e → IsAt t (under (Name m.0) e)

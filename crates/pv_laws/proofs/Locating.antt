@@ -1,6 +1,7 @@
 -- The location of each error leads to its input.
-use Rattle.std.proofs.Common.{◌≡◌, ℕ, zero, suc, Bool, true, drop, get_or, subst, Option, None, Some, Ok, Err, List, [], ◌∷◌, ◌++◌, map, flat_map, length, slice_get, refl, ap, arith}
+use Rattle.std.proofs.Common.{◌≡◌, ℕ, zero, suc, Bool, true, false, not, drop, sym, ◌∙◌, get_or, subst, Option, None, Some, Ok, Err, List, [], ◌∷◌, ◌++◌, map, flat_map, length, slice_get, refl, ap, arith}
 use Rattle.std.proofs.lemmas.List.Elements.{All-contains_itself, recursion_from_All}
+use Rattle.std.specs.Prelude.{unwrap_or}
 use Rattle.std.specs.List.{AllByRecursion, Contains}
 use Rattle.pv_tree.specs.declared.Tree.{Tree, out-Tree}
 use Rattle.pv_tree.specs.declared.Tree.TheOpen.{Tree-F}
@@ -13,23 +14,27 @@ use Rattle.pv_fault.specs.declared.Kind.{Kind}
 use Rattle.pv_fault.specs.declared.LineError.{LineError}
 use Rattle.pv_fault.specs.declared.Kind.TheVariants as kind
 use Rattle.pv_fault.specs.declared.Outcome.{Outcome}
+use Rattle.pv_fault.specs.declared.Outcome.TheVariants.{Good, Bad}
 use Rattle.pv_fault.specs.Single.{one_error}
 use Rattle.pv_node.specs.declared.Node.{Node}
 use Rattle.pv_node.specs.declared.Body.{Body}
 use Rattle.pv_node.specs.declared.Body.TheOpen.{Body-F}
-use Rattle.pv_node.specs.Places.{Slot, Place, body_of, slots, slots_of, places, places_of, root_place, items_slot, position_slots, keys_slot, values_slot, inner_slot}
-use Rattle.pv_plan.specs.Records.{Stands, all_places, any_place, child_at, children_of, own_strict}
+use Rattle.pv_node.specs.Places.{Slot, Place, body_of, slots, slots_of, places, places_of, root_place, items_slot, position_slots, keys_slot, values_slot, inner_slot, field_slots, extras_slots}
+use Rattle.pv_plan.specs.Records.{Stands, all_places, any_place, child_at, children_of, own_strict, own_validates, validates_at, is_default}
 use Rattle.pv_plan.proofs.Absent.{any_body}
 use Rattle.pv_plan.proofs.Placed.{stands}
 use Rattle.pv_scalar.specs.Tests.{Graded, outcome_of}
 use Rattle.pv_scalar.specs.Scalars.{scalar_of, answer_of}
 use Rattle.pv_collect.specs.Gathering.{Part, Pair, items_errors, missing_of, wanted, measured, unless_errors, type_error, pair_errors, gather_items, gather_pairs}
 use Rattle.pv_engine.specs.Rules.{Child, part, takers, placed, pair, sequence, sequence_in, tuple, tuple_in, dict, dict_in, first, second, collection, collection_of, nullable, nullable_in}
-use Rattle.pv_engine.specs.Meaning.{meaning, meaning_at, node, node_at, by_slot, strict_in}
+use Rattle.pv_engine.specs.Fields.{missing_value}
+use Rattle.pv_engine.specs.Wrapping.{model, modelled, model_value, model_in, default, default_in}
+use Rattle.pv_engine.specs.Meaning.{meaning, meaning_at, node, node_at, by_slot, default_with, default_at, default_by_slot, strict_in}
 use Rattle.pv_laws.specs.Located.{IsOutcomeOf}
 use Rattle.pv_laws.specs.Locations.{keeps_locations, KeepsLocations}
 use Rattle.pv_laws.proofs.Each.{each_append, found_is}
 use Rattle.std.specs.Option.{IfSome}
+use Rattle.pv_laws.proofs.LocatedFields.{IsQuiet, fields_located}
 use Rattle.pv_laws.proofs.LocatedParts.{IsAt, Locates, AreParts, here, items_located, sequence_parts, tuple_parts, missing_located, pairs_located}
 
 -- one error at the tree itself
@@ -103,15 +108,55 @@ scalar_located : (t : Tree) (answer : Graded Value) → IsOutcomeOf t (outcome_o
 scalar_located t (Ok x) = tt
 scalar_located t (Err k) = one_located k t
 
+-- models and defaults
+model_located : (cls : List ℕ) (root_model : Bool) (t : Tree) (o : Outcome) → IsOutcomeOf t o → IsOutcomeOf t (model_in cls root_model t o)
+model_located cls root_model t (Bad es) h = h
+model_located cls root_model t (Good v g n) h = modelled_located (model_value cls root_model v)
+  where
+    modelled_located : (x : Option Value) → IsOutcomeOf t (modelled t g n x)
+    modelled_located None = one_located kind.ModelType t
+    modelled_located (Some w) = tt
+
+default_located : (stands_in validates : Bool) (child : Child) (d t : Tree) (o : Outcome) → not validates ≡ true → IsOutcomeOf t o → IsOutcomeOf t (default_in stands_in validates child d o)
+default_located stands_in true child d t o keeps h = cc
+default_located stands_in false child d t (Good v g n) keeps h = h
+default_located true false child d t (Bad es) keeps h = tt
+default_located false false child d t (Bad es) keeps h = h
+
+-- a default that is not validated gives no error
+quiet_value : (validates : Bool) (child : Child) (d : Tree) → not validates ≡ true → IsQuiet (Some (missing_value validates child d))
+quiet_value true child d keeps = cc
+quiet_value false child d keeps = refl
+
+quiet_with : (child : Place → Child) (place : Place) (b : Body-F Body Node) → body_of place.node ≡ b → keeps_locations place.settings (body_of place.node) ≡ true → IsQuiet (default_with child place b)
+quiet_with child place (Body-F.Default d validates failing inner) is keeps =
+    quiet_value (own_validates place) (child (child_at place (inner_slot inner))) d
+    (ap (λ x. not (unwrap_or (validates_at x) place.settings.validate_default)) is ∙ sym (ap (keeps_locations place.settings) is) ∙ keeps)
+quiet_with child place (Body-F.Scalar r) is keeps = tt
+quiet_with child place (Body-F.Sequence r items) is keeps = tt
+quiet_with child place (Body-F.Tuple r items) is keeps = tt
+quiet_with child place (Body-F.Dict r keys values) is keeps = tt
+quiet_with child place (Body-F.Nullable inner) is keeps = tt
+quiet_with child place (Body-F.Fields r schemas extras config cls) is keeps = tt
+quiet_with child place (Body-F.Model cls root_model config inner) is keeps = tt
+
 -- a place whose children have their errors located
-body_located : (run : Option Bool) (child : Place → Child) (root : Node) (place : Place) (b : Body-F Body Node) → keeps_locations b ≡ true
-    → AllByRecursion Locates (map (by_slot run child root place) (slots b)) → Locates (node_at run child root place b)
-unfolding scalar_of nullable
-body_located run child root place (Body-F.Scalar r) keeps are t = scalar_located t (answer_of r place.settings (strict_in run (own_strict place)) t)
-body_located run child root place (Body-F.Sequence r items) keeps are t = collection_located r (map (by_slot run child root place) (items_slot items ∷ [])) are t
-body_located run child root place (Body-F.Tuple r items) keeps are t = collection_located r (map (by_slot run child root place) (position_slots 0 items)) are t
-body_located run child root place (Body-F.Dict r keys values) keeps are t = collection_located r (map (by_slot run child root place) (keys_slot keys ∷ values_slot values ∷ [])) are t
-body_located run child root place (Body-F.Nullable inner) keeps are t = nullable_located (by_slot run child root place (inner_slot inner)) are.0 t (out-Tree t)
+body_located : (run : Option Bool) (child : Place → Child) (root : Node) (place : Place) (b : Body-F Body Node) → body_of place.node ≡ b → keeps_locations place.settings b ≡ true
+    → AllByRecursion Locates (map (by_slot run child root place) (slots b)) → AllByRecursion IsQuiet (map (default_by_slot run child root place) (slots b)) → Locates (node_at run child root place b)
+unfolding scalar_of nullable model default
+body_located run child root place (Body-F.Scalar r) is keeps are quiet t = scalar_located t (answer_of r place.settings (strict_in run (own_strict place)) t)
+body_located run child root place (Body-F.Sequence r items) is keeps are quiet t = collection_located r (map (by_slot run child root place) (items_slot items ∷ [])) are t
+body_located run child root place (Body-F.Tuple r items) is keeps are quiet t = collection_located r (map (by_slot run child root place) (position_slots 0 items)) are t
+body_located run child root place (Body-F.Dict r keys values) is keeps are quiet t = collection_located r (map (by_slot run child root place) (keys_slot keys ∷ values_slot values ∷ [])) are t
+body_located run child root place (Body-F.Nullable inner) is keeps are quiet t = nullable_located (by_slot run child root place (inner_slot inner)) are.0 t (out-Tree t)
+body_located run child root place (Body-F.Fields r schemas extras config cls) is keeps are quiet t =
+    fields_located r place.settings (map (by_slot run child root place) (field_slots r.fields schemas ++ extras_slots extras))
+    (map (default_by_slot run child root place) (field_slots r.fields schemas ++ extras_slots extras)) keeps are quiet t
+body_located run child root place (Body-F.Model cls root_model config inner) is keeps are quiet t =
+    model_located cls root_model t (by_slot run child root place (inner_slot inner) t) (are.0 t)
+body_located run child root place (Body-F.Default d validates failing inner) is keeps are quiet t =
+    default_located (is_default failing) (own_validates place) (by_slot run child root place (inner_slot inner)) d t (by_slot run child root place (inner_slot inner) t)
+    (ap (λ x. not (unwrap_or (validates_at x) place.settings.validate_default)) is ∙ keeps) (are.0 t)
 
 -- what holds at the ends of numbers holds of the places that they lead to
 led : (look : ℕ → Option Place) (P : Place → Type 0) → ((i : ℕ) (q : Place) → look i ≡ Some q → P q) → (cs : List ℕ) (qs : List Place) → map look cs ≡ map Some qs → AllByRecursion P qs
@@ -120,16 +165,16 @@ led look P h [] (q ∷ qs) e = absurd (let l = ap length e in omega (arith, l))
 led look P h (c ∷ cs) [] e = absurd (let l = ap length e in omega (arith, l))
 led look P h (c ∷ cs) (q ∷ qs) e = (h c q (ap (λ xs. get_or xs 0 None) e), led look P h cs qs (ap (drop 1) e))
 
-of_slots : (P : Child → Type 0) (f : Place → Child) (g : Slot Node → Place) (ss : List (Slot Node)) → AllByRecursion (λ q. P (f q)) (map g ss) → AllByRecursion P (map (λ slot. f (g slot)) ss)
+of_slots : {X : Type 0} (P : X → Type 0) (f : Place → X) (g : Slot Node → Place) (ss : List (Slot Node)) → AllByRecursion (λ q. P (f q)) (map g ss) → AllByRecursion P (map (λ slot. f (g slot)) ss)
 of_slots P f g [] h = tt
 of_slots P f g (slot ∷ ss) h = (h.0, of_slots P f g ss h.1)
 
 abbrev Keeps : Place → Type 0
-Keeps place = keeps_locations (body_of place.node) ≡ true
+Keeps place = keeps_locations place.settings (body_of place.node) ≡ true
 
 module _ (run : Option Bool) (root : Node) (keeps : KeepsLocations root) where
   all_keep : AllByRecursion Keeps (all_places root)
-  all_keep = each_append Keeps (places root) (any_place ∷ []) keeps (ap keeps_locations any_body, tt)
+  all_keep = each_append Keeps (places root) (any_place ∷ []) keeps (ap (keeps_locations any_place.settings) any_body, tt)
 
   keeps_at : (i : ℕ) (place : Place) → slice_get (all_places root) i ≡ Some place → Keeps place
   keeps_at i place here = subst (λ o. IfSome o Keeps) here (found_is Keeps (all_places root) i all_keep)
@@ -141,8 +186,9 @@ module _ (run : Option Bool) (root : Node) (keeps : KeepsLocations root) where
       let at = stands root i place here in
       let next = meaning_at run root depth in
       let children = led (slice_get (all_places root)) (λ q. Locates (next q)) (located_at depth) at.0.children (children_of root place) at.2.children in
-      body_located run next root place (body_of place.node) (keeps_at i place here)
-      (of_slots Locates next (child_at place) (slots_of place.node) children) document
+      let quiet = led (slice_get (all_places root)) (λ q. IsQuiet (default_at next q)) (λ j q at. quiet_with next q (body_of q.node) refl (keeps_at j q at)) at.0.children (children_of root place) at.2.children in
+      body_located run next root place (body_of place.node) refl (keeps_at i place here)
+      (of_slots Locates next (child_at place) (slots_of place.node) children) (of_slots IsQuiet (default_at next) (child_at place) (slots_of place.node) quiet) document
 
 pub outcome_is_located : (run : Option Bool) (depth : ℕ) (schema : Node) (document : Tree) → KeepsLocations schema → IsOutcomeOf document (meaning run depth schema document)
 unfolding places_of

@@ -1,20 +1,39 @@
 -- Schemas whose nodes leave the locations of errors as they are.
-use Rattle.std.specs.Prelude.{◌≡◌, Bool, true}
-use Rattle.std.specs.List.{AllByRecursion}
+use Rattle.std.specs.Prelude.{◌≡◌, Bool, true, false, not, ◌&&◌, List, [], ◌∷◌, unwrap_or}
+use Rattle.std.specs.List.{AllByRecursion, list_all}
+use Rattle.pv_tree.specs.declared.Step.{Step}
+use Rattle.pv_rules.specs.declared.FieldRule.{FieldRule}
+use Rattle.pv_rules.specs.declared.Settings.{Settings}
 use Rattle.pv_node.specs.declared.Node.{Node}
 use Rattle.pv_node.specs.declared.Body.TheOpen.{Body-F}
 use Rattle.pv_node.specs.Places.{body_of, places}
+use Rattle.pv_fields.specs.Paths.{paths_of}
 
--- Whether the errors of a node are at the input itself, or those of its child schemas with no steps
--- but those to the parts of the input in front of their locations.
-abbrev pub keeps_locations : {X Y : Type 0} → Body-F X Y → Bool
-keeps_locations (Body-F.Scalar rule) = true
-keeps_locations (Body-F.Sequence rule items) = true
-keeps_locations (Body-F.Tuple rule items) = true
-keeps_locations (Body-F.Dict rule keys values) = true
-keeps_locations (Body-F.Nullable inner) = true
+-- there is a path
+abbrev pub is_any_path : List (List Step) → Bool
+is_any_path [] = false
+is_any_path (path ∷ paths) = true
+
+-- the errors of fields stand at the paths at which the fields are looked for
+abbrev pub keeps_fields : Settings → List FieldRule → Bool
+keeps_fields s fs = s.loc_by_alias && list_all (λ f. is_any_path (paths_of s f)) fs
+
+-- Whether the errors of a node, by the settings in force in it, are at the input itself, or those
+-- of its child schemas with no steps but those to the parts of the input in front of their
+-- locations. The errors of a default that is validated are not those of the input.
+abbrev pub keeps_locations : {X Y : Type 0} → Settings → Body-F X Y → Bool
+keeps_locations s (Body-F.Scalar rule) = true
+keeps_locations s (Body-F.Sequence rule items) = true
+keeps_locations s (Body-F.Tuple rule items) = true
+keeps_locations s (Body-F.Dict rule keys values) = true
+keeps_locations s (Body-F.Nullable inner) = true
+keeps_locations s (Body-F.Fields rule fields extras config cls) = keeps_fields s rule.fields
+keeps_locations s (Body-F.Model cls root_model config inner) = true
+keeps_locations s (Body-F.Default default validates failing inner) =
+    not (unwrap_or validates s.validate_default)
 
 -- each node of a schema keeps them
 abbrev pub KeepsLocations : Node → Type 0
 KeepsLocations root =
-    AllByRecursion (λ place. keeps_locations (body_of place.node) ≡ true) (places root)
+    AllByRecursion (λ place. keeps_locations place.settings (body_of place.node) ≡ true)
+    (places root)

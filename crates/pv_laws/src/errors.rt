@@ -8,8 +8,10 @@ ghost use Rattle.pv_laws.specs.Located.{IsOutcomeOf};
 ghost use Rattle.pv_laws.specs.Locations.{KeepsLocations};
 
 /// A document that is not valid has at least one error, and the location of each error leads to its
-/// input: a part of the document, an array that lacks the item at the location, or a member's key.
-/// So it is of schemas whose nodes leave locations as they are.
+/// input: a part of the document, an array that lacks the item at the location, a member's key, or an
+/// object in which a path of a field leads nowhere. So it is of schemas whose nodes leave locations as
+/// they are: no errors of fields stand under their names in place of their paths, and no default is
+/// validated.
 #[tactic(auto, using(crate::proofs::Locating::outcome_is_located))]
 pub fn errors_are_located()
     ensures { (run : Option Bool) (depth : ℕ) (schema : Node) (document : Tree) →

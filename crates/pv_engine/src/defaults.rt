@@ -1,0 +1,147 @@
+//! Defaults: the child, and what stands in where it fails or where no tree is there.
+
+ghost use Rattle.std.specs.Prelude.{map, ◌≡◌, Some, IfOk};
+ghost use Rattle.std.specs.Option.{option_map};
+ghost use Rattle.pv_collect.specs.Kept.{good_of};
+ghost use Rattle.pv_engine.specs.Fields as gives;
+ghost use Rattle.pv_engine.specs.Rules.{first};
+ghost use Rattle.pv_engine.specs.Run.{default_of};
+ghost use Rattle.pv_engine.specs.Wrapping as wraps;
+ghost use Rattle.pv_engine.specs.Walks.{Walks};
+ghost use Rattle.pv_engine.specs.Nests.{Nests, below};
+ghost use Rattle.pv_engine.specs.GoingFields.{stand_in_outcome, lax_good};
+
+use crate::out::Out;
+use crate::rules::Rules;
+use crate::scene::Scene;
+use pv_fault::{Good, Grade};
+use pv_plan::Op;
+use pv_text::Memory;
+use pv_tree::{Tree, plain_value};
+use std::alloc::Global;
+
+/// What stands in where no tree is there: the tree of a default, and the children of its node, by
+/// which the tree is validated where `validates` is true.
+#[derive(Clone, Copy)]
+pub(crate) struct StandIn<'a> {
+    pub(crate) tree: &'a Tree,
+    pub(crate) validates: bool,
+    pub(crate) children: &'a [u32],
+}
+
+/// The plain value of a tree.
+#[inline(never)]
+pub(crate) fn plainly(alloc: Global, tree: &Tree) -> Result<Option<Good>, Memory>
+    ensures { IfOk result (λ found. found ≡ good_of (gives.plainly tree.now)) }
+{
+    Ok(Some(Good {
+        value: plain_value(alloc, tree)?,
+        grade: Grade::Exact,
+        fields: None,
+    }))
+}
+
+/// The same success with the lowest grade.
+fn laxly(found: Option<Good>) -> Option<Good>
+    ensures { result ≡ lax_good found }
+{
+    match found {
+        Some(Good { value, fields, .. }) => Some(Good {
+            value,
+            grade: Grade::Lax,
+            fields,
+        }),
+        None => None,
+    }
+}
+
+impl<
+    's,
+    'a,
+    F: Fn(&Scene<'a>, &mut Out<'a>, u64, u32, &Tree) -> Result<Option<Good>, Memory>,
+> Rules<'s, 'a, F> {
+    /// What stands in for the record of this number, where it is a default.
+    pub(crate) fn stand_in(&self, number: u32) -> Option<StandIn<'a>>
+        ensures { option_map (stand_in_outcome (below self.now)) result
+            ≡ default_of self.now.scene.now.table.now (below self.now) number }
+    {
+        match self.scene.table.get(number as usize) {
+            None => None,
+            Some(slot) => match &slot.op {
+                Op::Default { default: tree, .. } => Some(StandIn {
+                    tree,
+                    validates: slot.validate_default,
+                    children: slot.children.as_slice(),
+                }),
+                Op::Scalar(_) => None,
+                Op::Gather(_) => None,
+                Op::Nullable => None,
+                Op::Fields(_) => None,
+                Op::Model { .. } => None,
+            },
+        }
+    }
+
+    /// The value of a default where no tree is there.
+    pub(crate) fn missing_value(
+        &self,
+        out: &mut Out<'a>,
+        validates: bool,
+        children: &[u32],
+        default: &Tree,
+    ) -> Result<Option<Good>, Memory>
+        requires { Nests F.Fn self.now }
+        ensures { Walks out.old out.new result
+            (gives.missing_value validates (first (map (below self.now) children.now)) default.now) }
+    {
+        if validates {
+            return self.first(out, children, default);
+        }
+        let found = plainly(self.scene.alloc, default)?;
+        Ok(found)
+    }
+
+    /// The value of a default where its child failed.
+    fn lax_value(
+        &self,
+        out: &mut Out<'a>,
+        validates: bool,
+        children: &[u32],
+        default: &Tree,
+    ) -> Result<Option<Good>, Memory>
+        requires { Nests F.Fn self.now }
+        ensures { Walks out.old out.new result (wraps.laxly
+            (gives.missing_value validates (first (map (below self.now) children.now)) default.now)) }
+    {
+        let found = self.missing_value(out, validates, children, default)?;
+        Ok(laxly(found))
+    }
+
+    /// A default. Where its child fails and the default stands in, the errors of the child are taken back.
+    #[tactic(auto, unfolding(crate::specs::Wrapping::default))]
+    pub(crate) fn default(
+        &self,
+        out: &mut Out<'a>,
+        default: &Tree,
+        stands_in: bool,
+        validates: bool,
+        children: &[u32],
+        tree: &Tree,
+    ) -> Result<Option<Good>, Memory>
+        requires { Nests F.Fn self.now }
+        ensures { Walks out.old out.new result (wraps.default stands_in validates
+            (first (map (below self.now) children.now)) default.now tree.now) }
+    {
+        let mark = out.errors.len();
+        match self.first(out, children, tree)? {
+            Some(good) => Ok(Some(good)),
+            None => {
+                if !stands_in {
+                    return Ok(None);
+                }
+                out.errors.cut(mark);
+                self.lax_value(out, validates, children, default)
+            }
+        }
+    }
+}
