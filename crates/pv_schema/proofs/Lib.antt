@@ -1,7 +1,4 @@
 pub mod CheckOpens
 pub mod TableLemmas
 pub mod MakeOpens
-pub mod AllowedValues
-pub mod AllowedKeys
-pub mod AllowedBodies
-pub mod Allowing
+pub mod Rest

@@ -1,4 +1,5 @@
 pub mod Find
+pub mod Keys
 pub mod Table
 pub mod Rows
 pub mod Checking

@@ -1,36 +1,36 @@
 //! What has to be there, and what has to fit together.
 
 ghost use Rattle.std.specs.Prelude.{◌≡◌, IfOk};
-ghost use Rattle.pv_schema.specs.Checking as spec;
-ghost use Rattle.pv_schema.specs.Rows.{rows_in};
 ghost use Rattle.pv_schema.specs.Answers.{Answers};
+ghost use Rattle.pv_schema.specs.Checking as spec;
+ghost use Rattle.pv_schema.specs.Keys.{itself, tree_at};
+ghost use Rattle.pv_schema.specs.Rows.{object_in};
+ghost use Rattle.pv_schema.specs.declared.row.Fit.TheVariants as fit;
 
 use crate::check_fault::CheckFault;
 use crate::fault::{Code, ShapeCode};
 use crate::finding::find;
-use crate::node_type::NodeType;
 use crate::refusing::refused_at;
-use crate::table::Row;
+use crate::row::{Fit, KeyRow, ObjectRow, Test};
 use pv_rules::{EnumMember, Literal, SubType};
 use pv_schema_values::{count_of, members_of, sub_type_of};
 use pv_text::{Memory, Text};
 use pv_tree::Tree;
 use std::alloc::Global;
 
-fn is_absent(row: &Row, members: &[(Text, Tree)]) -> bool
-    ensures { result ≡ spec.is_absent members.now
-        (row.now.key.now, record { kind = row.now.kind; required = row.now.required }) }
+fn is_absent(row: &KeyRow, members: &[(Text, Tree)]) -> bool
+    ensures { result ≡ spec.is_absent (tree_at itself members.now) row.now }
 {
     row.required && find(members, row.key).is_none()
 }
 
 /// The keys that have to be there.
-pub(crate) fn check_missing(
+fn check_missing(
     alloc: Global,
-    rows: &[Row],
+    rows: &[KeyRow],
     members: &[(Text, Tree)],
 ) -> Result<(), CheckFault>
-    ensures { Answers result (spec.missing_in members.now (rows_in rows.now)) }
+    ensures { Answers result (spec.missing (tree_at itself members.now) rows.now) }
 {
     for row in rows {
         if is_absent(row, members) {
@@ -49,10 +49,10 @@ fn size_of(tree: &Tree) -> usize
     }
 }
 
-/// Whether the place of the variadic position lies in the list of positions.
-#[tactic(auto, unfolding(crate::specs::Checking::place_fits))]
+/// Whether a place lies in a list.
+#[tactic(auto, unfolding(crate::specs::Checking::fits))]
 fn place_fits(place: &Tree, items: &Tree) -> bool
-    ensures { result ≡ spec.place_fits place.now items.now }
+    ensures { result ≡ spec.fits fit.PlaceInList place.now items.now }
 {
     match count_of(place) {
         None => true,
@@ -83,9 +83,9 @@ fn all_are_of(sub_type: SubType, members: &[EnumMember]) -> bool
 }
 
 /// Whether the values of the members are of the sub type.
-#[tactic(auto, unfolding(crate::specs::Checking::members_fit))]
+#[tactic(auto, unfolding(crate::specs::Checking::fits))]
 fn members_fit(alloc: Global, sub_type: &Tree, members: &Tree) -> Result<bool, Memory>
-    ensures { IfOk result (λ b. b ≡ spec.members_fit sub_type.now members.now) }
+    ensures { IfOk result (λ b. b ≡ spec.fits fit.OfSubType sub_type.now members.now) }
 {
     let Some(sub_type) = sub_type_of(sub_type) else {
         return Ok(true);
@@ -96,66 +96,54 @@ fn members_fit(alloc: Global, sub_type: &Tree, members: &Tree) -> Result<bool, M
     }
 }
 
-fn check_place(alloc: Global, members: &[(Text, Tree)]) -> Result<(), CheckFault>
-    ensures { Answers result (spec.misfits (λ t. t) spec.checked NodeType.Tuple members.now) }
+fn fits(alloc: Global, fit: Fit, value: &Tree, other: &Tree) -> Result<bool, Memory>
+    ensures { IfOk result (λ b. b ≡ spec.fits fit value.now other.now) }
 {
-    let Some(place) = find(members, "variadic_item_index") else {
-        return Ok(());
-    };
-    let Some(items) = find(members, "items_schema") else {
-        return Ok(());
-    };
-    if place_fits(place, items) {
-        Ok(())
-    } else {
-        Err(refused_at(
-            alloc,
-            "variadic_item_index",
-            Code::Shape(ShapeCode::BadValue),
-        ))
+    match fit {
+        Fit::PlaceInList => Ok(place_fits(value, other)),
+        Fit::OfSubType => members_fit(alloc, value, other),
     }
 }
 
-fn check_sub_type(alloc: Global, members: &[(Text, Tree)]) -> Result<(), CheckFault>
-    ensures { Answers result (spec.misfits (λ t. t) spec.checked NodeType.Enum members.now) }
+/// Whether the value under a test's key fits the other one, where both are there.
+fn check_test(alloc: Global, test: &Test, members: &[(Text, Tree)]) -> Result<(), CheckFault>
+    ensures { Answers result (spec.misfit test.now
+        (tree_at itself members.now test.now.key) (tree_at itself members.now test.now.other)) }
 {
-    let Some(sub_type) = find(members, "sub_type") else {
+    let Some(value) = find(members, test.key) else {
         return Ok(());
     };
-    let Some(values) = find(members, "members") else {
+    let Some(other) = find(members, test.other) else {
         return Ok(());
     };
-    if members_fit(alloc, sub_type, values)? {
+    if fits(alloc, test.fit, value, other)? {
         Ok(())
     } else {
-        Err(refused_at(alloc, "sub_type", Code::Shape(ShapeCode::BadValue)))
+        Err(refused_at(alloc, test.key, Code::Shape(ShapeCode::BadValue)))
     }
 }
 
-/// What does not fit together in a node of this type.
-pub(crate) fn check_fit(
+/// What does not fit together.
+fn check_tests(alloc: Global, tests: &[Test], members: &[(Text, Tree)]) -> Result<(), CheckFault>
+    ensures { Answers result (spec.misfits (tree_at itself members.now) tests.now) }
+{
+    for test in tests {
+        check_test(alloc, test, members)?;
+    }
+    Ok(())
+}
+
+/// What is left to say of an object whose keys are right.
+#[tactic(auto, using(crate::proofs::Rest::rest_splits))]
+pub(crate) fn check_rest(
     alloc: Global,
-    node_type: NodeType,
+    object: ObjectRow,
     members: &[(Text, Tree)],
 ) -> Result<(), CheckFault>
-    ensures { Answers result (spec.misfits (λ t. t) spec.checked node_type members.now) }
+    ensures { Answers result
+        (spec.rest_faults (tree_at itself members.now) (object_in object)) }
 {
-    match node_type {
-        NodeType::Enum => check_sub_type(alloc, members),
-        NodeType::Tuple => check_place(alloc, members),
-        NodeType::Any
-        | NodeType::None
-        | NodeType::Bool
-        | NodeType::Int
-        | NodeType::Str
-        | NodeType::Bytes
-        | NodeType::Uuid
-        | NodeType::Url
-        | NodeType::Literal
-        | NodeType::List
-        | NodeType::Set
-        | NodeType::Frozen
-        | NodeType::Dict
-        | NodeType::Nullable => Ok(()),
-    }
+    check_missing(alloc, object.shared, members)?;
+    check_missing(alloc, object.own, members)?;
+    check_tests(alloc, object.tests, members)
 }

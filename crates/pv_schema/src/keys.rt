@@ -2,10 +2,11 @@
 
 ghost use Rattle.std.specs.Prelude.{◌≡◌, IfOk};
 ghost use Rattle.pv_schema_values.specs.Values as value;
-ghost use Rattle.pv_schema.specs.Find.{find};
+ghost use Rattle.pv_schema.specs.Keys.{itself, tree_at};
 ghost use Rattle.pv_schema.specs.Making.{or_empty, read};
 
 use crate::finding::find;
+use crate::key::Key;
 use pv_rules::{EnumMember, Literal, SubType};
 use pv_schema_values::{
     count_of, flag_of, int_of, literals_of, members_of, positive_of, sub_type_of, text_of,
@@ -16,8 +17,8 @@ use pv_tree::{Names, Tree};
 use sqlite_items::Items;
 use std::alloc::Global;
 
-pub(crate) fn flag_at(members: &[(Text, Tree)], key: &str) -> Option<bool>
-    ensures { result ≡ read value.flag_of (find key.now members.now) }
+pub(crate) fn flag_at(members: &[(Text, Tree)], key: Key) -> Option<bool>
+    ensures { result ≡ read value.flag_of (tree_at itself members.now key) }
 {
     match find(members, key) {
         Some(tree) => flag_of(tree),
@@ -25,8 +26,8 @@ pub(crate) fn flag_at(members: &[(Text, Tree)], key: &str) -> Option<bool>
     }
 }
 
-pub(crate) fn int_at(members: &[(Text, Tree)], key: &str) -> Option<i128>
-    ensures { result ≡ read value.int_of (find key.now members.now) }
+pub(crate) fn int_at(members: &[(Text, Tree)], key: Key) -> Option<i128>
+    ensures { result ≡ read value.int_of (tree_at itself members.now key) }
 {
     match find(members, key) {
         Some(tree) => int_of(tree),
@@ -34,8 +35,8 @@ pub(crate) fn int_at(members: &[(Text, Tree)], key: &str) -> Option<i128>
     }
 }
 
-pub(crate) fn positive_at(members: &[(Text, Tree)], key: &str) -> Option<i128>
-    ensures { result ≡ read value.positive_of (find key.now members.now) }
+pub(crate) fn positive_at(members: &[(Text, Tree)], key: Key) -> Option<i128>
+    ensures { result ≡ read value.positive_of (tree_at itself members.now key) }
 {
     match find(members, key) {
         Some(tree) => positive_of(tree),
@@ -43,8 +44,8 @@ pub(crate) fn positive_at(members: &[(Text, Tree)], key: &str) -> Option<i128>
     }
 }
 
-pub(crate) fn count_at(members: &[(Text, Tree)], key: &str) -> Option<u64>
-    ensures { result ≡ read value.count_of (find key.now members.now) }
+pub(crate) fn count_at(members: &[(Text, Tree)], key: Key) -> Option<u64>
+    ensures { result ≡ read value.count_of (tree_at itself members.now key) }
 {
     match find(members, key) {
         Some(tree) => count_of(tree),
@@ -52,8 +53,8 @@ pub(crate) fn count_at(members: &[(Text, Tree)], key: &str) -> Option<u64>
     }
 }
 
-pub(crate) fn version_at(members: &[(Text, Tree)], key: &str) -> Option<u64>
-    ensures { result ≡ read value.version_of (find key.now members.now) }
+pub(crate) fn version_at(members: &[(Text, Tree)], key: Key) -> Option<u64>
+    ensures { result ≡ read value.version_of (tree_at itself members.now key) }
 {
     match find(members, key) {
         Some(tree) => version_of(tree),
@@ -61,8 +62,8 @@ pub(crate) fn version_at(members: &[(Text, Tree)], key: &str) -> Option<u64>
     }
 }
 
-pub(crate) fn sub_type_at(members: &[(Text, Tree)], key: &str) -> Option<SubType>
-    ensures { result ≡ read value.sub_type_of (find key.now members.now) }
+pub(crate) fn sub_type_at(members: &[(Text, Tree)], key: Key) -> Option<SubType>
+    ensures { result ≡ read value.sub_type_of (tree_at itself members.now key) }
 {
     match find(members, key) {
         Some(tree) => sub_type_of(tree),
@@ -73,9 +74,9 @@ pub(crate) fn sub_type_at(members: &[(Text, Tree)], key: &str) -> Option<SubType
 pub(crate) fn text_at(
     alloc: Global,
     members: &[(Text, Tree)],
-    key: &str,
+    key: Key,
 ) -> Result<Option<Text>, Memory>
-    ensures { IfOk result (λ found. found ≡ read value.text_of (find key.now members.now)) }
+    ensures { IfOk result (λ found. found ≡ read value.text_of (tree_at itself members.now key)) }
 {
     match find(members, key) {
         Some(tree) => match text_of(tree) {
@@ -89,9 +90,9 @@ pub(crate) fn text_at(
 pub(crate) fn texts_at(
     alloc: Global,
     members: &[(Text, Tree)],
-    key: &str,
+    key: Key,
 ) -> Result<Option<Names>, Memory>
-    ensures { IfOk result (λ found. found ≡ read value.texts_of (find key.now members.now)) }
+    ensures { IfOk result (λ found. found ≡ read value.texts_of (tree_at itself members.now key)) }
 {
     match find(members, key) {
         Some(tree) => texts_of(alloc, tree),
@@ -102,9 +103,9 @@ pub(crate) fn texts_at(
 pub(crate) fn literals_at(
     alloc: Global,
     members: &[(Text, Tree)],
-    key: &str,
+    key: Key,
 ) -> Result<Items<Literal>, Memory>
-    ensures { IfOk result (λ found. found ≡ or_empty (read value.literals_of (find key.now members.now))) }
+    ensures { IfOk result (λ found. found ≡ or_empty (read value.literals_of (tree_at itself members.now key))) }
 {
     let Some(tree) = find(members, key) else {
         return Ok(Items::new(alloc));
@@ -118,9 +119,9 @@ pub(crate) fn literals_at(
 pub(crate) fn enum_members_at(
     alloc: Global,
     members: &[(Text, Tree)],
-    key: &str,
+    key: Key,
 ) -> Result<Items<EnumMember>, Memory>
-    ensures { IfOk result (λ found. found ≡ or_empty (read value.members_of (find key.now members.now))) }
+    ensures { IfOk result (λ found. found ≡ or_empty (read value.members_of (tree_at itself members.now key))) }
 {
     let Some(tree) = find(members, key) else {
         return Ok(Items::new(alloc));

@@ -1,8 +1,10 @@
-use Rattle.std.proofs.Common.{ap, ◌∙◌}
-use Rattle.pv_schema.specs.Find.{find}
-use Rattle.pv_schema.specs.Table.{kind_of}
-use Rattle.pv_schema.proofs.TableLemmas.{kind_found}
+use Rattle.pv_schema.specs.Rows.{object_in}
+use Rattle.pv_schema.proofs.TableLemmas.{kind_found, kind_not_found}
+use Rattle.std.proofs.Common.{◌∙◌}
 use Rattle.pv_schema.proofs.listing.kind_under.Goals as goal
 
 pub returns-in-Some : goal.returns-in-Some
-returns-in-Some c = kind_found _ _ _ (c.in-Some.ensures ∙ ap (λ r. kind_of (find c.args.key.now r)) c.common.ensures)
+returns-in-Some c = kind_found (object_in c.args.object) _ _ (c.in-Some.ensures)
+
+pub returns-in-None : goal.returns-in-None
+returns-in-None c = c.kind_in-in-None.ensures ∙ kind_not_found (object_in c.args.object) _ c.in-None.ensures
