@@ -14,7 +14,6 @@ use Rattle.pv_schema.specs.Find.{find}
 use Rattle.pv_schema.specs.Keys.{text, itself, tree_at}
 use Rattle.pv_schema.specs.Table.{ObjectRow, TypeRow, kind_under, node_types}
 use Rattle.pv_schema.specs.Checking.{Checked, checked, check_step, faults, value_faults, row_of, row_faults, rest_faults, object_faults, member_faults, faults_under, typed_faults, item_faults, list_faults, level_faults, all_under}
-use Rattle.pv_schema.specs.declared.key.Key.{Key}
 use Rattle.pv_schema.specs.declared.key.Key.TheVariants as key
 use Rattle.pv_schema.specs.declared.fault.Code.{Code}
 use Rattle.pv_schema.specs.declared.fault.Refusal.{Refusal}

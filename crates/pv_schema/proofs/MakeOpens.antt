@@ -1,16 +1,18 @@
 -- What a tree is made to be, by what the trees right inside are.
-use Rattle.std.proofs.Common.{◌≡◌, ℕ, List, map, refl, ap, sym, ◌∙◌, Option, Some, None}
+use Rattle.std.proofs.Common.{◌≡◌, ℕ, List, map, refl, ap, sym, ◌∙◌, Some}
 use Rattle.std.proofs.Math.Path.{fun_ext}
 use Rattle.std.proofs.lemmas.Simd.{map-map}
 use Rattle.pv_tree.specs.Parts.{items_at, members_at}
-use Rattle.pv_tree.specs.declared.Tree.{Tree, out-Tree, rec-roll-Tree, roll-out-Tree, map-Tree}
+use Rattle.pv_tree.specs.Names.{Distinct}
+use Rattle.pv_tree.specs.declared.Tree.{Tree, out-Tree, out-roll-Tree, rec-roll-Tree, roll-out-Tree, map-Tree}
+use Rattle.pv_tree.specs.declared.Tree.TheVariants as tree
+use Rattle.pv_tree.specs.declared.Tree.TheVariants.{rolls-Object, rolls-Array}
 use Rattle.pv_tree.specs.declared.Tree.TheOpen.{Tree-F}
 use Rattle.pv_node.specs.declared.Node.{Node}
 use Rattle.pv_schema.specs.Keys.{text, itself, tree_at}
 use Rattle.pv_schema.specs.Table.{node_types}
 use Rattle.pv_schema.specs.Checking.{row_of}
 use Rattle.pv_schema.specs.Making.{MadeAs, Made, all_made, make_step, made, level_made, node_by_row, node_in, nodes_in, part_at}
-use Rattle.pv_schema.specs.declared.key.Key.{Key}
 use Rattle.pv_schema.specs.declared.key.Key.TheVariants as key
 use Rattle.pv_schema.specs.declared.kind.Kind.{Kind}
 use Rattle.pv_schema.specs.declared.kind.Kind.TheVariants as kind
@@ -65,3 +67,17 @@ node_opens t = made_opens t kind.Schema
 
 pub nodes_open : (t : Tree) → made t kind.Schemas ≡ nodes_in itself made (items_at (out-Tree t))
 nodes_open t = made_opens t kind.Schemas
+
+object_opened : (d : Distinct Tree) → out-Tree (tree.Object d) ≡ Tree-F.Object d
+object_opened d = ap out-Tree (sym (rolls-Object d)) ∙ out-roll-Tree (Tree-F.Object d)
+
+array_opened : (ts : List Tree) → out-Tree (tree.Array ts) ≡ Tree-F.Array ts
+array_opened ts = ap out-Tree (sym (rolls-Array ts)) ∙ out-roll-Tree (Tree-F.Array ts)
+
+pub object_made : (n : Node) (t : Tree) (d : Distinct Tree) → t ≡ tree.Object d → n ≡ node_in itself made (Some d.members) → n ≡ made t kind.Schema
+object_made n t d e g = g ∙ sym (node_opens t ∙ ap (λ x. node_in itself made (members_at x)) (ap out-Tree e ∙ object_opened d))
+
+pub array_made : (ns : List Node) (t : Tree) (ts all : List Tree) → t ≡ tree.Array ts → all ≡ ts → ns ≡ map (λ u. made u kind.Schema) all
+    → ns ≡ made t kind.Schemas
+array_made ns t ts all e f g =
+    g ∙ ap (map (λ u. made u kind.Schema)) f ∙ sym (nodes_open t ∙ ap (λ x. nodes_in itself made (items_at x)) (ap out-Tree e ∙ array_opened ts))

@@ -25,11 +25,7 @@ fn is_absent(row: &KeyRow, members: &[(Text, Tree)]) -> bool
 }
 
 /// The keys that have to be there.
-fn check_missing(
-    alloc: Global,
-    rows: &[KeyRow],
-    members: &[(Text, Tree)],
-) -> Result<(), CheckFault>
+fn check_missing(alloc: Global, rows: &[KeyRow], members: &[(Text, Tree)]) -> Result<(), CheckFault>
     ensures { Answers result (spec.missing (tree_at itself members.now) rows.now) }
 {
     for row in rows {

@@ -26,11 +26,7 @@ use std::alloc::Global;
 
 /// The schema under a key.
 #[cycle(make)]
-fn make_child(
-    alloc: Global,
-    members: &Members,
-    key: Key,
-) -> Result<Option<Boxed<Node>>, Memory>
+fn make_child(alloc: Global, members: &Members, key: Key) -> Result<Option<Boxed<Node>>, Memory>
     ensures { IfOk result (λ node. node ≡ spec.part_at itself made members.now.members kind.Schema key) }
 {
     for (name, value) in members.as_slice() {
@@ -56,17 +52,13 @@ fn make_children(alloc: Global, members: &Members, key: Key) -> Result<Items<Nod
 }
 
 #[cycle(make)]
-fn make_sequence(
-    alloc: Global,
-    kind: Collection,
-    members: &Members,
-) -> Result<Body, Memory>
+fn make_sequence(alloc: Global, collection: Collection, members: &Members) -> Result<Body, Memory>
     ensures { IfOk result (λ body. body
-        ≡ Body.Sequence (spec.gather_rule (tree_at itself members.now.members) kind)
+        ≡ Body.Sequence (spec.gather_rule (tree_at itself members.now.members) collection)
         (spec.part_at itself made members.now.members kind.Schema Key.ItemsSchema)) }
 {
     Ok(Body::Sequence {
-        rule: gather_rule(kind, members.as_slice()),
+        rule: gather_rule(collection, members.as_slice()),
         items_schema: make_child(alloc, members, Key::ItemsSchema)?,
     })
 }
@@ -114,11 +106,7 @@ fn literal_rule(alloc: Global, members: &[(Text, Tree)]) -> Result<ScalarRule, M
 }
 
 #[cycle(make)]
-fn make_body(
-    alloc: Global,
-    node_type: NodeType,
-    members: &Members,
-) -> Result<Body, Memory>
+fn make_body(alloc: Global, node_type: NodeType, members: &Members) -> Result<Body, Memory>
     ensures { IfOk result (λ body. body ≡ spec.body_in itself made members.now.members node_type) }
 {
     let keys = members.as_slice();
@@ -144,11 +132,7 @@ fn make_body(
 
 /// A node of a type.
 #[cycle(make)]
-fn make_node_of_type(
-    alloc: Global,
-    node_type: NodeType,
-    members: &Members,
-) -> Result<Node, Memory>
+fn make_node_of_type(alloc: Global, node_type: NodeType, members: &Members) -> Result<Node, Memory>
     ensures { IfOk result (λ node. node ≡ spec.node_of_type (tree_at itself members.now.members)
         (spec.part_at itself made members.now.members) node_type) }
 {
@@ -172,7 +156,7 @@ fn make_items(alloc: Global, items: &[Tree]) -> Result<Items<Node>, Memory>
 
 /// The list of schemas that a tree is.
 #[cycle(make)]
-#[tactic(auto, using(crate::proofs::MakeOpens::made_opens))]
+#[tactic(auto, using(crate::proofs::MakeOpens::nodes_open))]
 fn make_nodes(alloc: Global, tree: &Tree) -> Result<Items<Node>, Memory>
     ensures { IfOk result (λ nodes. nodes ≡ made tree.now kind.Schemas) }
 {
@@ -203,7 +187,7 @@ fn make_object(alloc: Global, members: &Members) -> Result<Node, Memory>
 
 /// The schema that a tree is.
 #[cycle(make)]
-#[tactic(auto, using(crate::proofs::MakeOpens::made_opens))]
+#[tactic(auto, using(crate::proofs::MakeOpens::node_opens))]
 pub(crate) fn make_node(alloc: Global, tree: &Tree) -> Result<Node, Memory>
     ensures { IfOk result (λ node. node ≡ made tree.now kind.Schema) }
 {
