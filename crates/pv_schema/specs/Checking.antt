@@ -1,7 +1,7 @@
--- All that is wrong with a tree as what it is asked to be, in the order in which it is refused.
--- An object that is none, or whose type is not known, is refused for that alone. In any other object
--- come what is wrong with its keys, in the order in which they stand, then the keys that have to be
--- there and are not, in the order of the table, and then what does not fit together.
+-- All that is wrong with a tree as each kind, in the order in which it is refused. What is to be an
+-- object and is none, or has no type that is known, is refused for that alone. In any other object
+-- comes what is wrong with its keys, in the order in which they stand, then the keys that have to
+-- be there and are not, in the order of the table, and then what does not fit together.
 use Rattle.std.specs.Prelude.{ℕ, ◌+◌, Bool, true, false, not, nat_lt, if◌then◌else◌}
 use Rattle.std.specs.Prelude.{List, [], ◌∷◌, ◌++◌, map, length}
 use Rattle.std.specs.Prelude.{Option, None, Some, is_some, Result, Ok, Err}
@@ -113,7 +113,8 @@ fits fit.OfSubType s members = are_of (sub_type_of s) (members_of members)
 abbrev pub misfit : Test → Option Tree → Option Tree → List Refusal
 misfit test None other = []
 misfit test (Some t) None = []
-misfit test (Some t) (Some u) = if fits test.fit t u then [] else at_key test.key (Shape BadValue) ∷ []
+misfit test (Some t) (Some u) =
+    if fits test.fit t u then [] else at_key test.key (Shape BadValue) ∷ []
 
 -- by the trees under the keys of an object
 module _ (at : Key → Option Tree) where

@@ -1,5 +1,5 @@
--- What a tree stands for as what it is asked to be, where nothing is wrong with it. What is absent is
--- left out, and what is wrong is taken as absent.
+-- What a tree is made to be as each kind, where nothing is wrong with it. What is absent is left
+-- out, and what is wrong is taken as absent.
 use Rattle.std.specs.Prelude.{ℕ, List, [], map, length}
 use Rattle.std.specs.Prelude.{Option, None, Some, Result, Ok, Err}
 use Rattle.std.specs.Option.{option_map}

@@ -105,7 +105,8 @@ pub(crate) fn literals_at(
     members: &[(Text, Tree)],
     key: Key,
 ) -> Result<Items<Literal>, Memory>
-    ensures { IfOk result (λ found. found ≡ or_empty (read value.literals_of (tree_at itself members.now key))) }
+    ensures { IfOk result (λ found. found
+        ≡ or_empty (read value.literals_of (tree_at itself members.now key))) }
 {
     let Some(tree) = find(members, key) else {
         return Ok(Items::new(alloc));
@@ -121,7 +122,8 @@ pub(crate) fn enum_members_at(
     members: &[(Text, Tree)],
     key: Key,
 ) -> Result<Items<EnumMember>, Memory>
-    ensures { IfOk result (λ found. found ≡ or_empty (read value.members_of (tree_at itself members.now key))) }
+    ensures { IfOk result (λ found. found
+        ≡ or_empty (read value.members_of (tree_at itself members.now key))) }
 {
     let Some(tree) = find(members, key) else {
         return Ok(Items::new(alloc));

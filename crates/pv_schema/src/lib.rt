@@ -22,10 +22,11 @@ mod row;
 mod rules;
 mod table;
 
-pub use fault::{Code, Refusal, SchemaFault, ShapeCode};
+pub use fault::{SchemaFault, ShapeCode};
 pub use key::Key;
 pub use kind::Kind;
 pub use laws::what_is_read_is_allowed;
 pub use node_type::NodeType;
 pub use reading::read_schema;
-pub use row::{Fit, KeyRow, Makes, Test};
+pub use row::{Fit, KeyRow, Makes, ObjectRow, Test, TypeRow};
+pub use table::node_types;

@@ -27,7 +27,8 @@ use std::alloc::Global;
 /// The schema under a key.
 #[cycle(make)]
 fn make_child(alloc: Global, members: &Members, key: Key) -> Result<Option<Boxed<Node>>, Memory>
-    ensures { IfOk result (λ node. node ≡ spec.part_at itself made members.now.members kind.Schema key) }
+    ensures { IfOk result (λ node. node
+        ≡ spec.part_at itself made members.now.members kind.Schema key) }
 {
     for (name, value) in members.as_slice() {
         if key.text() == name.as_str() {
@@ -65,7 +66,8 @@ fn make_sequence(alloc: Global, collection: Collection, members: &Members) -> Re
 
 #[cycle(make)]
 fn make_tuple(alloc: Global, members: &Members) -> Result<Body, Memory>
-    ensures { IfOk result (λ body. body ≡ spec.body_in itself made members.now.members NodeType.Tuple) }
+    ensures { IfOk result (λ body. body
+        ≡ spec.body_in itself made members.now.members NodeType.Tuple) }
 {
     let items_schema = make_children(alloc, members, Key::ItemsSchema)?;
     let rule = tuple_rule(items_schema.len() as u64, members.as_slice());
@@ -74,7 +76,8 @@ fn make_tuple(alloc: Global, members: &Members) -> Result<Body, Memory>
 
 #[cycle(make)]
 fn make_dict(alloc: Global, members: &Members) -> Result<Body, Memory>
-    ensures { IfOk result (λ body. body ≡ spec.body_in itself made members.now.members NodeType.Dict) }
+    ensures { IfOk result (λ body. body
+        ≡ spec.body_in itself made members.now.members NodeType.Dict) }
 {
     let keys_schema = make_child(alloc, members, Key::KeysSchema)?;
     let values_schema = make_child(alloc, members, Key::ValuesSchema)?;
@@ -87,7 +90,8 @@ fn make_dict(alloc: Global, members: &Members) -> Result<Body, Memory>
 
 #[cycle(make)]
 fn make_nullable(alloc: Global, members: &Members) -> Result<Body, Memory>
-    ensures { IfOk result (λ body. body ≡ spec.body_in itself made members.now.members NodeType.Nullable) }
+    ensures { IfOk result (λ body. body
+        ≡ spec.body_in itself made members.now.members NodeType.Nullable) }
 {
     match make_child(alloc, members, Key::Schema)? {
         Some(schema) => Ok(Body::Nullable { schema }),
@@ -100,14 +104,16 @@ fn make_nullable(alloc: Global, members: &Members) -> Result<Body, Memory>
 /// The values of which one is expected.
 fn literal_rule(alloc: Global, members: &[(Text, Tree)]) -> Result<ScalarRule, Memory>
     ensures { IfOk result (λ made. made
-        ≡ rule.Literal (or_empty (read value.literals_of (tree_at itself members.now Key.Expected)))) }
+        ≡ rule.Literal
+        (or_empty (read value.literals_of (tree_at itself members.now Key.Expected)))) }
 {
     Ok(ScalarRule::Literal(literals_at(alloc, members, Key::Expected)?))
 }
 
 #[cycle(make)]
 fn make_body(alloc: Global, node_type: NodeType, members: &Members) -> Result<Body, Memory>
-    ensures { IfOk result (λ body. body ≡ spec.body_in itself made members.now.members node_type) }
+    ensures { IfOk result (λ body. body
+        ≡ spec.body_in itself made members.now.members node_type) }
 {
     let keys = members.as_slice();
     match node_type {

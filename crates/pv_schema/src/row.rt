@@ -33,10 +33,10 @@ pub struct Test {
 /// What an object takes: keys that it shares with others, keys of its own, and the tests that come
 /// after all keys.
 #[derive(Clone, Copy)]
-pub(crate) struct ObjectRow {
-    pub(crate) shared: &'static [KeyRow],
-    pub(crate) own: &'static [KeyRow],
-    pub(crate) tests: &'static [Test],
+pub struct ObjectRow {
+    pub shared: &'static [KeyRow],
+    pub own: &'static [KeyRow],
+    pub tests: &'static [Test],
 }
 
 /// What is made of an object of a type.
@@ -49,8 +49,8 @@ pub enum Makes {
 
 /// A type by its name.
 #[derive(Clone, Copy)]
-pub(crate) struct TypeRow {
-    pub(crate) name: &'static str,
-    pub(crate) makes: Makes,
-    pub(crate) object: ObjectRow,
+pub struct TypeRow {
+    pub name: &'static str,
+    pub makes: Makes,
+    pub object: ObjectRow,
 }

@@ -185,8 +185,8 @@ static NODE_TYPES: [TypeRow; 31] = [
     node!("definition-ref"),
 ];
 
-/// The types of nodes.
-pub(crate) fn node_types() -> &'static [TypeRow]
+/// The types of nodes, each with its keys and its tests.
+pub fn node_types() -> &'static [TypeRow]
     ensures { types_in result.now ≡ spec.node_types }
 {
     &NODE_TYPES
