@@ -1,14 +1,22 @@
 -- What a tree stands for under a key of a schema, where it holds no schema: nothing where it may
 -- not stand there.
-use Rattle.std.specs.Prelude.{ℕ, Bool, true, false, not, ◌&&◌, nat_le, if◌then◌else◌, bytes_eq}
+use Rattle.std.specs.Prelude.{ℕ, Bool, true, false, not, ◌&&◌, ◌||◌, nat_le, if◌then◌else◌, bytes_eq}
 use Rattle.std.specs.Prelude.{List, [], ◌∷◌, codes, ℤ, pos, negsuc}
 use Rattle.std.specs.Prelude.{Option, None, Some, is_some, option_map, option_and_then}
+use Rattle.std.specs.Option.{option_or}
 use Rattle.std.specs.List.{list_any}
 use Rattle.std.specs.Ordering.{int_eq}
 use Rattle.pv_number.specs.WrittenIntegers.{integer}
 use Rattle.pv_tree.specs.Parts.{text_at, lexeme_at, flag_at, items_at}
 use Rattle.pv_tree.specs.declared.Tree.{Tree, out-Tree}
 use Rattle.pv_tree.specs.declared.Tree.TheOpen.{Tree-F}
+use Rattle.pv_tree.specs.declared.Step.{Step}
+use Rattle.pv_tree.specs.declared.Step.TheVariants.{Name, Index}
+use Rattle.pv_rules.specs.declared.AliasRule.{AliasRule}
+use Rattle.pv_rules.specs.declared.ExtraBehavior.{ExtraBehavior}
+use Rattle.pv_rules.specs.declared.ExtraBehavior.TheVariants as behavior
+use Rattle.pv_rules.specs.declared.OnError.{OnError}
+use Rattle.pv_rules.specs.declared.OnError.TheVariants as on_error
 use Rattle.pv_rules.specs.declared.Literal.{Literal}
 use Rattle.pv_rules.specs.declared.Literal.TheVariants as literal
 use Rattle.pv_rules.specs.declared.EnumMember.{EnumMember}
@@ -76,6 +84,45 @@ sub_type_by (Some text) =
 unfoldable pub sub_type_of : Tree → Option SubType
 sub_type_of t = sub_type_by (text_of t)
 
+-- what an extra key may be
+abbrev pub extra_behavior_by : Option (List ℕ) → Option ExtraBehavior
+extra_behavior_by None = None
+extra_behavior_by (Some text) =
+    if bytes_eq text (codes "ignore")
+    then Some behavior.Ignore
+    else (if bytes_eq text (codes "allow")
+    then Some behavior.Allow
+    else (if bytes_eq text (codes "forbid") then Some behavior.Forbid else None))
+
+-- what `ignore`, `allow` and `forbid` name
+unfoldable pub extra_behavior_of : Tree → Option ExtraBehavior
+extra_behavior_of t = extra_behavior_by (text_of t)
+
+-- what is done on an error, where there is a text
+abbrev pub on_error_by : Option (List ℕ) → Option OnError
+on_error_by None = None
+on_error_by (Some text) =
+    if bytes_eq text (codes "raise")
+    then Some on_error.Raise
+    else (if bytes_eq text (codes "default") then Some on_error.Default else None)
+
+-- what `raise` and `default` name
+unfoldable pub on_error_of : Tree → Option OnError
+on_error_of t = on_error_by (text_of t)
+
+-- whether there is a text, and it says when instances of a model are validated again
+abbrev pub is_revalidation : Option (List ℕ) → Bool
+is_revalidation None = false
+is_revalidation (Some text) =
+    bytes_eq text (codes "always")
+    || (bytes_eq text (codes "never") || bytes_eq text (codes "subclass-instances"))
+
+-- whether there is a list, and it is empty
+abbrev pub is_empty_list : Option (List Tree) → Bool
+is_empty_list None = false
+is_empty_list (Some []) = true
+is_empty_list (Some (t ∷ ts)) = false
+
 -- one more value before others, where all are there
 abbrev pub put_first : {Y : Type 0} → Option Y → Option (List Y) → Option (List Y)
 put_first None ys = None
@@ -100,6 +147,39 @@ some_in f (Some ts) = some_of f ts
 -- a list of texts that is not empty
 unfoldable pub texts_of : Tree → Option (List (List ℕ))
 texts_of t = some_in text_of (items_at (out-Tree t))
+
+-- a later step of a path: a text or a count
+unfoldable pub step_of : Tree → Option Step
+step_of t = option_or (option_map Name (text_of t)) (option_map Index (count_of t))
+
+-- the steps of a path by the items of its list, of which the first is a text
+abbrev pub path_by : List Tree → Option (List Step)
+path_by [] = None
+path_by (t ∷ ts) = put_first (option_map Name (text_of t)) (all_of step_of ts)
+
+-- the same, where there are items
+abbrev pub path_in : Option (List Tree) → Option (List Step)
+path_in None = None
+path_in (Some ts) = path_by ts
+
+-- a path: a list of steps, of which the first is a text
+unfoldable pub path_of : Tree → Option (List Step)
+path_of t = path_in (items_at (out-Tree t))
+
+-- an alias of these paths
+abbrev pub alias_to : List (List Step) → AliasRule
+alias_to paths = record { paths = paths }
+
+-- an alias by the text that it is, by the path that it is, or else by its paths
+abbrev pub alias_by : Option (List ℕ) → Option (List Step) → Option (List (List Step))
+    → Option AliasRule
+alias_by (Some text) path paths = Some (alias_to ((Name text ∷ []) ∷ []))
+alias_by None (Some path) paths = Some (alias_to (path ∷ []))
+alias_by None None paths = option_map alias_to paths
+
+-- an alias: a text, a path, or a list of paths that is not empty
+unfoldable pub alias_of : Tree → Option AliasRule
+alias_of t = alias_by (text_of t) (path_of t) (some_in path_of (items_at (out-Tree t)))
 
 -- one level as a value that a schema names: null, a flag, an int or a text
 abbrev pub literal_at : Tree-F Tree → Option Literal
@@ -206,3 +286,8 @@ is_value value.SubType t = is_some (sub_type_of t)
 is_value value.Texts t = is_some (texts_of t)
 is_value value.Literals t = is_some (literals_of t)
 is_value value.Members t = is_some (members_of t)
+is_value value.ExtraBehavior t = is_some (extra_behavior_of t)
+is_value value.OnError t = is_some (on_error_of t)
+is_value value.Revalidation t = is_revalidation (text_of t)
+is_value value.EmptyList t = is_empty_list (items_at (out-Tree t))
+is_value value.Alias t = is_some (alias_of t)

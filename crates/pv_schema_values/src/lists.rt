@@ -18,12 +18,10 @@ pub(crate) trait FromTree: Drop + Sized {
         ensures { IfOk result (λ found. found ≡ of tree.now) };
 }
 
-fn some_of<T: FromTree>(alloc: Global, items: &[Tree]) -> Result<Option<Vec<T>>, Memory>
-    ensures { IfOk result (λ found. option_map (λ v. v.items) found ≡ spec.some_of T.of items.now) }
+/// All that trees stand for. It is `None` where one of them stands for nothing.
+pub(crate) fn all_of<T: FromTree>(alloc: Global, items: &[Tree]) -> Result<Option<Vec<T>>, Memory>
+    ensures { IfOk result (λ found. option_map (λ v. v.items) found ≡ spec.all_of T.of items.now) }
 {
-    if items.is_empty() {
-        return Ok(None);
-    }
     let mut all = Vec::with_capacity(alloc, items.len())?;
     for item in items {
         let Some(value) = T::from_tree(alloc, item)? else {
@@ -32,6 +30,17 @@ fn some_of<T: FromTree>(alloc: Global, items: &[Tree]) -> Result<Option<Vec<T>>,
         all.push(value)?;
     }
     Ok(Some(all))
+}
+
+fn some_of<T: FromTree>(alloc: Global, items: &[Tree]) -> Result<Option<Vec<T>>, Memory>
+    ensures { IfOk result (λ found. option_map (λ v. v.items) found ≡ spec.some_of T.of items.now) }
+{
+    if items.is_empty() {
+        Ok(None)
+    } else {
+        let found = all_of(alloc, items)?;
+        Ok(found)
+    }
 }
 
 /// All that the items of a list stand for. It is `None` where the tree is no list, the list is

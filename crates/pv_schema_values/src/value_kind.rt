@@ -25,4 +25,15 @@ pub enum ValueKind {
     /// A list of pairs of a name and a value that is not empty. Names are distinct texts, and
     /// values distinct ints or texts.
     Members,
+    /// `ignore`, `allow` or `forbid`.
+    ExtraBehavior,
+    /// `raise` or `default`.
+    OnError,
+    /// `always`, `never` or `subclass-instances`.
+    Revalidation,
+    /// A list without items.
+    EmptyList,
+    /// A text, a path, or a list of paths that is not empty. A path is a list of texts and counts
+    /// that begins with a text.
+    Alias,
 }

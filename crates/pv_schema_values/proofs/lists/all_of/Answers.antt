@@ -1,6 +1,6 @@
 use Rattle.std.proofs.Common.{arith}
 use Rattle.std.proofs.lemmas.Grind.{common_steps}
-use Rattle.pv_schema_values.proofs.lists.some_of.Goals as goal
+use Rattle.pv_schema_values.proofs.lists.all_of.Goals as goal
 
 pub loop-item-preserved : goal.loop-item-preserved
 loop-item-preserved g c = grind (arith, common_steps)

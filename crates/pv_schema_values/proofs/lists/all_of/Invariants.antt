@@ -1,7 +1,7 @@
 use Rattle.std.proofs.Common.{◌≡◌, List, ◌++◌, drop}
 use Rattle.std.specs.Prelude.{Option, Some, None}
 use Rattle.pv_schema_values.specs.Values.{all_of}
-use Rattle.pv_schema_values.proofs.lists.some_of.Given as goal
+use Rattle.pv_schema_values.proofs.lists.all_of.Given as goal
 
 -- the values that are there already, and then those of the rest
 abbrev pub with_rest : {Y : Type 0} → List Y → Option (List Y) → Option (List Y)
