@@ -1,16 +1,18 @@
 -- Each slot of a node is found by its path, at least one step away.
-use Rattle.std.proofs.Common.{◌≡◌, ℕ, ◌+◌, ◌≤◌, ◌<◌, Bool, true, false, if◌then◌else◌, List, [], ◌∷◌, ◌++◌, length, codes, Option, Some, None, refl, ap, ◌∙◌, arith}
+use Rattle.std.proofs.Common.{◌≡◌, ℕ, ◌+◌, ◌≤◌, ◌<◌, Bool, true, false, if◌then◌else◌, List, [], ◌∷◌, ◌++◌, map, length, codes, Option, Some, None, refl, ap, ◌∙◌, arith}
 use Rattle.std.proofs.lemmas.Slice.Eq.{bytes_eq-Decides}
 use Rattle.std.proofs.lemmas.Bool.{ne_eqb}
 use Rattle.std.proofs.lemmas.Bool.Decides.{Decides-eqb}
-use Rattle.std.specs.List.{AllByRecursion}
+use Rattle.std.specs.List.{AllByRecursion, IsDistinct}
 use Rattle.std.specs.Str.{bytes_eq}
 use Rattle.pv_tree.specs.declared.Step.{Step}
 use Rattle.pv_tree.specs.declared.Step.TheVariants.{Name, Index}
+use Rattle.pv_rules.specs.declared.FieldRule.{FieldRule}
 use Rattle.pv_node.specs.declared.node.Node.{Node}
 use Rattle.pv_node.specs.declared.node.Body.{Body}
 use Rattle.pv_node.specs.declared.node.Body.TheOpen.{Body-F}
-use Rattle.pv_node.specs.Places.{Path, Slot, slots, slots_of, position_slots, body_of}
+use Rattle.pv_node.specs.Places.{Path, Slot, slots, slots_of, position_slots, field_slots, extras_slots, body_of}
+use Rattle.pv_node.specs.FieldNames.{HasFieldNames}
 use Rattle.pv_node.specs.Outward.{same_step, after, choose, through}
 
 -- among these slots, the one at this path is found by it
@@ -64,14 +66,14 @@ all_found : (ss : List (Slot Node)) → Apart ss → AreFound ss ss
 all_found [] apart = tt
 all_found (a ∷ ss) apart = (found_first a.path a.enters a.node ss, each_past a ss ss apart.0 (all_found ss apart.1))
 
-under_same : (x a b : Step) (q : Path) → same_step a b ≡ false → after (x ∷ a ∷ []) (x ∷ b ∷ q) ≡ None
-under_same x a b q e =
-    ap (λ c. if c then (if same_step a b then Some q else None) else None) (step_same x)
-    ∙ ap (λ c. if c then Some q else None) e
+under_same : (x a b : Step) (more q : Path) → same_step a b ≡ false → after (x ∷ a ∷ more) (x ∷ b ∷ q) ≡ None
+under_same x a b more q e =
+    ap (λ c. if c then (if same_step a b then after more q else None) else None) (step_same x)
+    ∙ ap (λ c. if c then after more q else None) e
 
 positions_past : (i j : ℕ) (ns : List Node) → i < j → AllByRecursion (λ b. Passes (Name (codes "items_schema") ∷ Index i ∷ []) b.path) (position_slots j ns)
 positions_past i j [] l = tt
-positions_past i j (n ∷ ns) l = (λ q. under_same (Name (codes "items_schema")) (Index i) (Index j) q (ne_eqb i j (λ e. omega (arith, e, l))), positions_past i (j + 1) ns (omega (arith, l)))
+positions_past i j (n ∷ ns) l = (λ q. under_same (Name (codes "items_schema")) (Index i) (Index j) [] q (ne_eqb i j (λ e. omega (arith, e, l))), positions_past i (j + 1) ns (omega (arith, l)))
 
 positions_apart : (i : ℕ) (ns : List Node) → Apart (position_slots i ns)
 positions_apart i [] = tt
@@ -81,19 +83,58 @@ positions_away : (i : ℕ) (ns : List Node) → AreAway (position_slots i ns)
 positions_away i [] = tt
 positions_away i (n ∷ ns) = (omega arith, positions_away (i + 1) ns)
 
--- of each kind of node
-clear : (b : Body-F Body Node) → Apart (slots b) × AreAway (slots b)
-clear (Body-F.Scalar rule) = (tt, tt)
-clear (Body-F.Sequence rule n) = ((tt, tt), (omega arith, tt))
-clear (Body-F.Tuple rule ns) = (positions_apart 0 ns, positions_away 0 ns)
-clear (Body-F.Dict rule n m) = (((λ q. refl, tt), (tt, tt)), (omega arith, (omega arith, tt)))
-clear (Body-F.Nullable n) = ((tt, tt), (omega arith, tt))
+abbrev names : List FieldRule → List (List ℕ)
+names rules = map (λ field. field.name) rules
 
-pub found : (n : Node) → AreFound (slots_of n) (slots_of n)
-found n = all_found (slots_of n) (clear (body_of n)).0
+abbrev to_field : List ℕ → Path
+to_field name = Name (codes "fields") ∷ Name name ∷ Name (codes "schema") ∷ []
+
+fields_past : (x : List ℕ) (rules : List FieldRule) (ns : List Node) (o : Option Node) → AllByRecursion (λ y. bytes_eq x y ≡ false) (names rules) → length ns ≤ length rules
+    → AllByRecursion (λ b. Passes (to_field x) b.path) (field_slots rules ns ++ extras_slots o)
+fields_past x rules [] None h l = tt
+fields_past x rules [] (Some m) h l = (λ q. refl, tt)
+fields_past x [] (n ∷ ns) o h l = absurd (omega (arith, l))
+fields_past x (rule ∷ rules) (n ∷ ns) o h l =
+    (λ q. under_same (Name (codes "fields")) (Name x) (Name rule.name) (Name (codes "schema") ∷ []) (Name (codes "schema") ∷ q) h.0, fields_past x rules ns o h.1 (omega (arith, l)))
+
+fields_apart : (rules : List FieldRule) (ns : List Node) (o : Option Node) → IsDistinct bytes_eq (names rules) → length ns ≤ length rules → Apart (field_slots rules ns ++ extras_slots o)
+unfolding IsDistinct
+fields_apart rules [] None h l = tt
+fields_apart rules [] (Some m) h l = (tt, tt)
+fields_apart [] (n ∷ ns) o h l = absurd (omega (arith, l))
+fields_apart (rule ∷ rules) (n ∷ ns) o h l = (fields_past rule.name rules ns o h.0 (omega (arith, l)), fields_apart rules ns o h.1 (omega (arith, l)))
+
+fields_away : (rules : List FieldRule) (ns : List Node) (o : Option Node) → AreAway (field_slots rules ns ++ extras_slots o)
+fields_away rules [] None = tt
+fields_away rules [] (Some m) = (omega arith, tt)
+fields_away rules (n ∷ ns) o = (omega arith, fields_away _ ns o)
+
+-- of each kind of node
+all_apart : (b : Body-F Body Node) → HasFieldNames b → Apart (slots b)
+all_apart (Body-F.Scalar rule) h = tt
+all_apart (Body-F.Sequence rule n) h = (tt, tt)
+all_apart (Body-F.Tuple rule ns) h = positions_apart 0 ns
+all_apart (Body-F.Dict rule n m) h = ((λ q. refl, tt), (tt, tt))
+all_apart (Body-F.Nullable n) h = (tt, tt)
+all_apart (Body-F.Fields rule ns extras config cls) h = fields_apart rule.fields ns extras h.0 h.1
+all_apart (Body-F.Model cls root config n) h = (tt, tt)
+all_apart (Body-F.Default d validate on_error n) h = (tt, tt)
+
+all_away : (b : Body-F Body Node) → AreAway (slots b)
+all_away (Body-F.Scalar rule) = tt
+all_away (Body-F.Sequence rule n) = (omega arith, tt)
+all_away (Body-F.Tuple rule ns) = positions_away 0 ns
+all_away (Body-F.Dict rule n m) = (omega arith, (omega arith, tt))
+all_away (Body-F.Nullable n) = (omega arith, tt)
+all_away (Body-F.Fields rule ns extras config cls) = fields_away rule.fields ns extras
+all_away (Body-F.Model cls root config n) = (omega arith, tt)
+all_away (Body-F.Default d validate on_error n) = (omega arith, tt)
+
+pub found : (n : Node) → HasFieldNames (body_of n) → AreFound (slots_of n) (slots_of n)
+found n h = all_found (slots_of n) (all_apart (body_of n) h)
 
 pub away : (n : Node) → AreAway (slots_of n)
-away n = (clear (body_of n)).1
+away n = all_away (body_of n)
 
 stay_one : (p : Path) (o : Option Node) (other : Option (Node × Path)) → 1 ≤ length p → choose o (after p []) other ≡ other
 stay_one [] o other l = absurd (omega (arith, l))

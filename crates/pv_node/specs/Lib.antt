@@ -3,3 +3,4 @@ pub mod Preorder
 pub mod Lending
 pub mod Outward
 pub mod Absent
+pub mod FieldNames

@@ -1,10 +1,11 @@
 -- The places of a schema: where its nodes stand, each with the settings in force there. A node
 -- comes before its child schemas, and these come in the order of their keys.
-use Rattle.std.specs.Prelude.{ℕ, ◌+◌, Bool, true, false, List, [], ◌∷◌, ◌++◌, codes, Option, Some, None, unwrap_or}
+use Rattle.std.specs.Prelude.{ℕ, ◌+◌, Bool, true, false, List, [], ◌∷◌, ◌++◌, drop, codes, Option, Some, None, unwrap_or}
 use Rattle.std.specs.List.{flat_map}
 use Rattle.pv_tree.specs.declared.Step.{Step}
 use Rattle.pv_tree.specs.declared.Step.TheVariants.{Name, Index}
 use Rattle.pv_rules.specs.Settings.{plain}
+use Rattle.pv_rules.specs.declared.FieldRule.{FieldRule}
 use Rattle.pv_rules.specs.declared.ScalarRule.{ScalarRule}
 use Rattle.pv_rules.specs.declared.Settings.{Settings}
 use Rattle.pv_node.specs.declared.node.Node.{Node, out-Node, rec-Node}
@@ -21,6 +22,11 @@ pub record Slot (Y : Type 0) : Type 0 where
   pub path : Path
   pub enters : Bool
   pub node : Option Y
+
+-- the name of the first of some fields, or the empty name where there is none
+abbrev pub first_name : List FieldRule → List ℕ
+first_name [] = []
+first_name (rule ∷ rules) = rule.name
 
 module _ {Y : Type 0} where
   -- for all items
@@ -52,6 +58,25 @@ module _ {Y : Type 0} where
   abbrev pub inner_slot : Y → Slot Y
   inner_slot node = record { path = Name (codes "schema") ∷ []; enters = false; node = Some node }
 
+  -- for the value of the field of this name
+  abbrev pub field_slot : List ℕ → Y → Slot Y
+  field_slot name node = record {
+    path = Name (codes "fields") ∷ Name name ∷ Name (codes "schema") ∷ [];
+    enters = true;
+    node = Some node;
+  }
+
+  -- for the values of all fields
+  abbrev pub field_slots : List FieldRule → List Y → List (Slot Y)
+  field_slots rules [] = []
+  field_slots rules (y ∷ ys) = field_slot (first_name rules) y ∷ field_slots (drop 1 rules) ys
+
+  -- for the values of all keys that no field takes; where no schema is written, there is no slot
+  abbrev pub extras_slots : Option Y → List (Slot Y)
+  extras_slots None = []
+  extras_slots (Some node) =
+      record { path = Name (codes "extras_schema") ∷ []; enters = true; node = Some node } ∷ []
+
 -- the slots of each kind of node
 abbrev pub slots : {X Y : Type 0} → Body-F X Y → List (Slot Y)
 slots (Body-F.Scalar rule) = []
@@ -59,10 +84,21 @@ slots (Body-F.Sequence rule items) = items_slot items ∷ []
 slots (Body-F.Tuple rule items) = position_slots 0 items
 slots (Body-F.Dict rule keys values) = keys_slot keys ∷ values_slot values ∷ []
 slots (Body-F.Nullable inner) = inner_slot inner ∷ []
+slots (Body-F.Fields rule fields extras config cls) =
+    field_slots rule.fields fields ++ extras_slots extras
+slots (Body-F.Model cls root config inner) = inner_slot inner ∷ []
+slots (Body-F.Default default validate on_error inner) = inner_slot inner ∷ []
 
--- the settings that a node configures; no kind of node that exists configures any
+-- the settings that a node configures
 abbrev pub config_at : {X Y : Type 0} → Body-F X Y → Option Settings
-config_at b = None
+config_at (Body-F.Scalar rule) = None
+config_at (Body-F.Sequence rule items) = None
+config_at (Body-F.Tuple rule items) = None
+config_at (Body-F.Dict rule keys values) = None
+config_at (Body-F.Nullable inner) = None
+config_at (Body-F.Fields rule fields extras config cls) = config
+config_at (Body-F.Model cls root config inner) = config
+config_at (Body-F.Default default validate on_error inner) = None
 
 -- the rule of a node without child schemas
 abbrev pub rule_of : {X Y : Type 0} → Body-F X Y → Option ScalarRule
@@ -71,6 +107,9 @@ rule_of (Body-F.Sequence rule items) = None
 rule_of (Body-F.Tuple rule items) = None
 rule_of (Body-F.Dict rule keys values) = None
 rule_of (Body-F.Nullable inner) = None
+rule_of (Body-F.Fields rule fields extras config cls) = None
+rule_of (Body-F.Model cls root config inner) = None
+rule_of (Body-F.Default default validate on_error inner) = None
 
 -- what a node asks for, with its child schemas in it
 abbrev pub body_of : Node → Body-F Body Node

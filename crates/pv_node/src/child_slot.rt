@@ -1,22 +1,22 @@
 //! The slots of nodes for child schemas.
 
-ghost use Rattle.std.specs.Prelude.{◌≡◌, true, [], ◌∷◌, slice_get};
+ghost use Rattle.std.specs.Prelude.{◌≡◌, true, [], ◌∷◌, ◌++◌, drop, slice_get};
 ghost use Rattle.std.specs.Option.{option_map};
 ghost use Rattle.pv_tree.specs.declared.Step.TheVariants.{Name};
 ghost use Rattle.pv_node.specs.declared.node.Body.{out-Body};
-ghost use Rattle.pv_node.specs.Places.{inner_slot, position_slots, slots, slots_of};
+ghost use Rattle.pv_node.specs.Places.{extras_slots, field_slots, first_name, inner_slot, position_slots, slots, slots_of};
 ghost use Rattle.pv_node.specs.Lending.{lent};
 
 use crate::node::{Body, Node};
+use crate::slot_path::SlotPath;
+use pv_rules::{FieldRule, FieldsRule};
 use sqlite_items::{Boxed, Items};
 
 /// A slot of a node, for a child schema.
 #[derive(Clone, Copy)]
 pub struct ChildSlot<'a> {
-    /// The key that it stands under.
-    pub key: &'static str,
-    /// Its position where a list stands under the key.
-    pub position: Option<u64>,
+    /// The way to it.
+    pub path: SlotPath<'a>,
     /// Whether it takes a part of the input, rather than the input itself.
     pub enters: bool,
     /// The node that is written there.
@@ -32,8 +32,7 @@ fn under_key<'a>(key: &'static str, node: &'a Option<Boxed<Node>>) -> ChildSlot<
         None => None,
     };
     ChildSlot {
-        key,
-        position: None,
+        path: SlotPath::Key(key),
         enters: true,
         node,
     }
@@ -44,8 +43,7 @@ fn inner(node: &Node) -> ChildSlot<'_>
     ensures { lent result ≡ inner_slot node.now }
 {
     ChildSlot {
-        key: "schema",
-        position: None,
+        path: SlotPath::Key("schema"),
         enters: false,
         node: Some(node),
     }
@@ -77,12 +75,74 @@ fn of_position(nodes: &Items<Node>, place: usize) -> Option<ChildSlot<'_>>
 {
     match nodes.get(place) {
         Some(node) => Some(ChildSlot {
-            key: "items_schema",
-            position: Some(place as u64),
+            path: SlotPath::Position("items_schema", place as u64),
             enters: true,
             node: Some(node),
         }),
         None => None,
+    }
+}
+
+/// The name of a field; one past the rules has the empty name.
+fn field_name(rules: &[FieldRule], place: usize) -> &str
+    ensures { result.now ≡ first_name (drop place rules.now) }
+{
+    match rules.get(place) {
+        Some(rule) => rule.name.as_str(),
+        None => "",
+    }
+}
+
+/// The slot of a field.
+fn of_field<'a>(
+    rules: &'a [FieldRule],
+    nodes: &'a Items<Node>,
+    place: usize,
+) -> Option<ChildSlot<'a>>
+    ensures { option_map lent result ≡ slice_get (field_slots rules.now nodes.now) place }
+{
+    match nodes.get(place) {
+        Some(node) => Some(ChildSlot {
+            path: SlotPath::Field(field_name(rules, place)),
+            enters: true,
+            node: Some(node),
+        }),
+        None => None,
+    }
+}
+
+/// The slot for extra keys, where there is one.
+fn of_extras(node: &Option<Boxed<Node>>, place: usize) -> Option<ChildSlot<'_>>
+    ensures { option_map lent result ≡ slice_get (extras_slots node.now) place }
+{
+    match node {
+        Some(node) => {
+            let slot = ChildSlot {
+                path: SlotPath::Key("extras_schema"),
+                enters: true,
+                node: Some(node.get()),
+            };
+            only(slot, place)
+        }
+        None => None,
+    }
+}
+
+/// The slots of the fields, and then that for extra keys.
+fn of_fields<'a>(
+    rule: &'a FieldsRule,
+    nodes: &'a Items<Node>,
+    extras: &'a Option<Boxed<Node>>,
+    place: usize,
+) -> Option<ChildSlot<'a>>
+    ensures { option_map lent result
+        ≡ slice_get (field_slots rule.now.fields nodes.now ++ extras_slots extras.now) place }
+{
+    let fields = nodes.len();
+    if place < fields {
+        of_field(rule.fields.as_slice(), nodes, place)
+    } else {
+        of_extras(extras, place - fields)
     }
 }
 
@@ -107,6 +167,14 @@ impl Body {
                 either(keys, values, place)
             }
             Body::Nullable { schema } => only(inner(schema.get()), place),
+            Body::Fields {
+                rule,
+                fields,
+                extras_schema,
+                ..
+            } => of_fields(rule, fields, extras_schema, place),
+            Body::Model { schema, .. } => only(inner(schema.get()), place),
+            Body::Default { schema, .. } => only(inner(schema.get()), place),
         }
     }
 }

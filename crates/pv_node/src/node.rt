@@ -1,8 +1,9 @@
 ghost use Rattle.std.specs.Prelude.{◌≡◌};
 ghost use Rattle.pv_node.specs.Absent.{any};
 
-use pv_rules::{GatherRule, ScalarRule};
+use pv_rules::{FieldsRule, GatherRule, OnError, ScalarRule, Settings};
 use pv_text::Text;
+use pv_tree::Tree;
 use sqlite_items::{Boxed, Items};
 
 /// A node of a schema: its name where it has one, whether it is strict where that is said, and
@@ -37,6 +38,29 @@ pub enum Body {
         values_schema: Option<Boxed<Node>>,
     },
     Nullable {
+        schema: Boxed<Node>,
+    },
+    /// The fields of a model, or a typed dict. The schemas of the fields stand in the order of the
+    /// fields of the rule. Only a typed dict has settings and a class of its own.
+    Fields {
+        rule: FieldsRule,
+        fields: Items<Node>,
+        extras_schema: Option<Boxed<Node>>,
+        config: Option<Settings>,
+        cls: Option<Text>,
+    },
+    /// A model: its class, and the schema of its fields or of its root.
+    Model {
+        cls: Text,
+        root_model: bool,
+        config: Option<Settings>,
+        schema: Boxed<Node>,
+    },
+    /// A schema with a value for where none is given.
+    Default {
+        default: Tree,
+        validate_default: Option<bool>,
+        on_error: OnError,
         schema: Boxed<Node>,
     },
 }

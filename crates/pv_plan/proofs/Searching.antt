@@ -12,16 +12,6 @@ use Rattle.pv_plan.specs.declared.faults.BuildFault.TheVariants as fault
 use Rattle.pv_plan.specs.BadPatterns.{bad_pattern, bad_itself, bad_at, bad_in, has_bad_pattern, to_pattern}
 use Rattle.pv_plan.specs.Faults.{FailsBy, IsBehind}
 
--- two steps, the second first
-pub behind_both : (p q : Path) (a b c : BuildFault) → IsBehind q a b → IsBehind p b c → IsBehind (p ++ q) a c
-behind_both p q fault.Memory fault.Memory fault.Memory h k = tt
-behind_both p q fault.Memory fault.Memory (fault.BadPattern z) h k = absurd k
-behind_both p q fault.Memory (fault.BadPattern y) c h k = absurd h
-behind_both p q (fault.BadPattern x) fault.Memory fault.Memory h k = tt
-behind_both p q (fault.BadPattern x) fault.Memory (fault.BadPattern z) h k = absurd k
-behind_both p q (fault.BadPattern x) (fault.BadPattern y) fault.Memory h k = tt
-behind_both p q (fault.BadPattern x) (fault.BadPattern y) (fault.BadPattern z) h k = k ∙ ap (λ path. p ++ path) h ∙ sym (append_assoc p q x)
-
 -- what fails in a node that is written in a slot fails in the slot
 pub slot_fails : (p : Path) (o : Option Node) (n : Node) (a b : BuildFault) → o ≡ Some n → FailsBy a (bad_pattern n) → IsBehind p a b → FailsBy b (bad_at p o)
 slot_fails p o n a fault.Memory is h k = tt

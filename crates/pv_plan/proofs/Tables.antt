@@ -8,7 +8,7 @@ use Rattle.pv_rules.specs.Settings.{plain}
 use Rattle.pv_rules.specs.declared.Settings.{Settings}
 use Rattle.pv_rules.specs.declared.ScalarRule.TheVariants as rule
 use Rattle.pv_node.specs.declared.Node.{Node}
-use Rattle.pv_node.specs.Places.{Path, Slot, Place, place_at, places, places_at, places_of, places_in, slots_of}
+use Rattle.pv_node.specs.Places.{Path, Slot, Place, place_at, places, places_at, places_of, places_in, under, slots_of}
 use Rattle.pv_node.specs.Preorder.{node_count, count_at, slots_count, first_in}
 use Rattle.pv_node.proofs.Openings.{opens}
 use Rattle.pv_node.proofs.Counts.{count_inside, count_first}
@@ -135,15 +135,17 @@ module _ (root : Node) (last : ℕ) where
       omega (arith, place, size, all)
 
   -- a record that is completed once what follows it is laid
-  pub laid : (p : Path) (s : Settings) (n : Node) (old mid table new : List Record) (at : ℕ) (none cs : List ℕ) → at ≡ length old
-      → mid ≡ old ++ record_with root (length old) (place_at p n s) [] ∷ []
-      → table ≡ mid ++ table_from root last (length mid) (flat_map (places_in p s) (slots_of n)) → none ≡ [] → cs ≡ none ++ numbers last (length mid) (slots_of n)
+  pub laid : (p : Path) (s t : Settings) (n : Node) (old mid table new : List Record) (at : ℕ) (none cs : List ℕ) → t ≡ under n s → at ≡ length old
+      → mid ≡ old ++ record_with root (length old) (record { path = p; node = n; settings = t }) [] ∷ []
+      → table ≡ mid ++ table_from root last (length mid) (flat_map (places_in p t) (slots_of n)) → none ≡ [] → cs ≡ none ++ numbers last (length mid) (slots_of n)
       → ((r : Record) → slice_get table at ≡ Some r → new ≡ slice_set table at (record { op = r.op; children = cs; strict = r.strict; validate_default = r.validate_default }))
       → new ≡ old ++ table_from root last (length old) (places_of p n s)
   unfolding table_from
-  laid p s n old mid table new at none cs place e f empty num g =
+  laid p s t n old mid table new at none cs force place begun grown empty num g =
       let here = place_at p n s in
-      let inner = flat_map (places_in p s) (slots_of n) in
+      let inner = flat_map (places_in p (under n s)) (slots_of n) in
+      let e : mid ≡ old ++ record_with root (length old) here [] ∷ [] = begun ∙ ap (λ u. old ++ record_with root (length old) (record { path = p; node = n; settings = u }) [] ∷ []) force in
+      let f : table ≡ mid ++ table_from root last (length mid) inner = grown ∙ ap (λ u. mid ++ table_from root last (length mid) (flat_map (places_in p u) (slots_of n))) force in
       let bare = record_with root (length old) here [] in
       let size : length mid ≡ length old + 1 = ap length e ∙ length-append old (bare ∷ []) in
       let rest = table_from root last (length old + 1) inner in

@@ -6,7 +6,7 @@ use Rattle.pv_rules.specs.declared.ScalarRule.TheVariants as rule
 use Rattle.pv_node.specs.declared.Node.{Node}
 use Rattle.pv_node.specs.Places.{Slot, Place, slots_of}
 use Rattle.pv_node.specs.Preorder.{count_at, node_count}
-use Rattle.pv_plan.specs.Records.{op_at, own_strict, all_places}
+use Rattle.pv_plan.specs.Records.{op_at, own_strict, own_validates, all_places}
 use Rattle.pv_plan.specs.declared.record.Op.TheVariants as op
 use Rattle.pv_plan.specs.declared.record.Record.{Record}
 
@@ -28,7 +28,7 @@ record_with root at place children = record {
   op = op_at root place at;
   children = children;
   strict = own_strict place;
-  validate_default = place.settings.validate_default;
+  validate_default = own_validates place;
 }
 
 -- the record of a place that has this number; its children stand behind it

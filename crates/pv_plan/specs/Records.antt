@@ -1,6 +1,8 @@
 -- Records that stand for the places of a schema.
-use Rattle.std.specs.Prelude.{◌≡◌, ℕ, Bool, List, [], ◌∷◌, ◌++◌, map, slice_get, Option, Some, None, unwrap_or}
+use Rattle.std.specs.Prelude.{◌≡◌, ℕ, Bool, true, false, List, [], ◌∷◌, ◌++◌, map, slice_get, Option, Some, None, unwrap_or}
 use Rattle.pv_rules.specs.Settings.{plain}
+use Rattle.pv_rules.specs.declared.OnError.{OnError}
+use Rattle.pv_rules.specs.declared.OnError.TheVariants as on_error
 use Rattle.pv_rules.specs.declared.Settings.{Settings}
 use Rattle.pv_node.specs.Absent.{any}
 use Rattle.pv_node.specs.declared.Node.{Node, out-Node}
@@ -10,6 +12,11 @@ use Rattle.pv_plan.specs.declared.record.Op.{Op}
 use Rattle.pv_plan.specs.declared.record.Op.TheVariants as op
 use Rattle.pv_plan.specs.declared.record.Record.{Record}
 
+-- whether a default stands in where the inner schema fails
+abbrev pub is_default : OnError → Bool
+is_default on_error.Raise = false
+is_default on_error.Default = true
+
 -- what a node does without its children, by the settings in force in it
 abbrev pub op_of : {X Y : Type 0} → Settings → Body-F X Y → Op
 op_of s (Body-F.Scalar r) = op.Scalar (r, s)
@@ -17,6 +24,9 @@ op_of s (Body-F.Sequence r items) = op.Gather r
 op_of s (Body-F.Tuple r items) = op.Gather r
 op_of s (Body-F.Dict r keys values) = op.Gather r
 op_of s (Body-F.Nullable inner) = op.Nullable
+op_of s (Body-F.Fields r fields extras config cls) = op.Fields (r, s)
+op_of s (Body-F.Model cls root config inner) = op.Model cls root
+op_of s (Body-F.Default default validates failing inner) = op.Default default (is_default failing)
 
 -- the same of a place of a schema, whose record has this number
 abbrev pub op_at : Node → Place → ℕ → Op
@@ -25,6 +35,22 @@ op_at root place number = op_of place.settings (body_of place.node)
 -- whether a node is strict where the run does not say: by its key, else by the settings in force
 abbrev pub own_strict : Place → Bool
 own_strict place = unwrap_or (out-Node place.node).strict place.settings.strict
+
+-- whether a node says that its default is validated
+abbrev pub validates_at : {X Y : Type 0} → Body-F X Y → Option Bool
+validates_at (Body-F.Scalar r) = None
+validates_at (Body-F.Sequence r items) = None
+validates_at (Body-F.Tuple r items) = None
+validates_at (Body-F.Dict r keys values) = None
+validates_at (Body-F.Nullable inner) = None
+validates_at (Body-F.Fields r fields extras config cls) = None
+validates_at (Body-F.Model cls root config inner) = None
+validates_at (Body-F.Default default validates failing inner) = validates
+
+-- whether the default of a node is validated: by its key, else by the settings in force
+abbrev pub own_validates : Place → Bool
+own_validates place =
+    unwrap_or (validates_at (body_of place.node)) place.settings.validate_default
 
 -- the place that stands for absent schemas
 abbrev pub any_place : Place
@@ -53,7 +79,7 @@ pub record Fits (root : Node) (place : Place) (number : ℕ) (r : Record) : Type
   pub op : r.op ≡ op_at root place number
   pub children : map (slice_get (all_places root)) r.children ≡ map Some (children_of root place)
   pub strict : r.strict ≡ own_strict place
-  pub validate_default : r.validate_default ≡ place.settings.validate_default
+  pub validate_default : r.validate_default ≡ own_validates place
 
 -- each record stands for the place of its number
 unfoldable pub Stands : Node → List Record → Type 0

@@ -1,14 +1,13 @@
 //! Why there is no plan, and where that stands.
 
-ghost use Rattle.std.specs.Prelude.{◌≡◌, [], ◌∷◌, Some};
-ghost use Rattle.pv_tree.specs.declared.Step.TheVariants.{Name, Index};
-ghost use Rattle.pv_node.specs.Lending.{lent};
+ghost use Rattle.std.specs.Prelude.{◌≡◌, Some};
+ghost use Rattle.pv_node.specs.Lending.{lent, steps};
 ghost use Rattle.pv_plan.specs.BadPatterns.{to_pattern};
 ghost use Rattle.pv_plan.specs.Faults.{FailsBy, IsBehind};
 
-use pv_node::ChildSlot;
-use pv_text::{Memory, Text};
-use pv_tree::{Loc, Step};
+use pv_node::{ChildSlot, SlotPath};
+use pv_text::Memory;
+use pv_tree::Loc;
 use std::alloc::{AllocError, Global};
 
 /// Why a schema has no plan: the first of its patterns, in the order of its nodes, that cannot be
@@ -43,55 +42,28 @@ impl From<AllocError> for BuildFault {
 pub(crate) fn bad_pattern(alloc: Global) -> BuildFault
     ensures { FailsBy result (Some to_pattern) }
 {
-    under_key(
-        alloc,
-        BuildFault::BadPattern {
-            path: Loc::new(alloc),
-        },
-        "pattern",
-    )
-}
-
-/// A path seen from where the step to it begins.
-fn under(mut path: Loc, step: Step) -> BuildFault
-    ensures { IsBehind (step ∷ []) (BuildFault.BadPattern path) result }
-{
-    match path.push_front(step) {
-        Ok(()) => BuildFault::BadPattern { path },
+    match SlotPath::Key("pattern").before(alloc, Loc::new(alloc)) {
+        Ok(path) => BuildFault::BadPattern { path },
         Err(_) => BuildFault::Memory,
     }
 }
 
-/// What went wrong under a key.
-fn under_key(alloc: Global, fault: BuildFault, key: &str) -> BuildFault
-    ensures { IsBehind (Name key.now ∷ []) fault result }
+/// What went wrong in a child schema, seen from the node.
+fn behind(alloc: Global, fault: BuildFault, path: &SlotPath<'_>) -> BuildFault
+    ensures { IsBehind (steps path.now) fault result }
 {
     match fault {
-        BuildFault::BadPattern { path } => match Text::from_str(alloc, key) {
-            Ok(name) => under(path, Step::Name(name)),
+        BuildFault::BadPattern { path: inner } => match path.before(alloc, inner) {
+            Ok(path) => BuildFault::BadPattern { path },
             Err(_) => BuildFault::Memory,
         },
         BuildFault::Memory => BuildFault::Memory,
     }
 }
 
-/// What went wrong at a position.
-fn under_position(fault: BuildFault, position: u64) -> BuildFault
-    ensures { IsBehind (Index position ∷ []) fault result }
-{
-    match fault {
-        BuildFault::BadPattern { path } => under(path, Step::Index(position)),
-        BuildFault::Memory => BuildFault::Memory,
-    }
-}
-
 /// What went wrong in a slot.
-#[tactic(auto, using(crate::proofs::Searching::behind_both))]
 pub(crate) fn under_slot(alloc: Global, fault: BuildFault, slot: &ChildSlot<'_>) -> BuildFault
     ensures { IsBehind (lent slot.now).path fault result }
 {
-    match slot.position {
-        Some(position) => under_key(alloc, under_position(fault, position), slot.key),
-        None => under_key(alloc, fault, slot.key),
-    }
+    behind(alloc, fault, &slot.path)
 }

@@ -2,7 +2,7 @@
 
 ghost use Rattle.std.specs.Prelude.{◌≡◌, ◌<◌, [], ◌∷◌, ◌++◌, length, slice_get, slice_set, IfOk, OnOk, None, Some};
 ghost use Rattle.std.specs.List.{flat_map};
-ghost use Rattle.pv_node.specs.Places.{Path, place_at, places_in, places_of, slots_of};
+ghost use Rattle.pv_node.specs.Places.{Path, places_in, places_of, slots_of};
 ghost use Rattle.pv_node.specs.Preorder.{first_in};
 ghost use Rattle.pv_node.specs.Lending.{lent};
 ghost use Rattle.pv_plan.specs.declared.record.Record.{Record as RecordValue};
@@ -12,7 +12,7 @@ ghost use Rattle.pv_plan.specs.BadPatterns.{bad_in, bad_itself, has_bad_pattern}
 ghost use Rattle.pv_plan.specs.Faults.{Finds};
 
 use crate::faults::{BuildFault, under_slot};
-use crate::operations::operation;
+use crate::operations::{operation, validates};
 use crate::record::Record;
 use pv_node::{ChildSlot, Node};
 use pv_rules::Settings;
@@ -69,7 +69,8 @@ pub(crate) struct Laying<'a> {
 }
 
 impl Laying<'_> {
-    /// Lays the record of a node whose children are still to be laid. Big values stay out of the
+    /// Lays the record of a node whose children are still to be laid, by the settings in force in
+    /// the node. Big values stay out of the
     /// frames of the recursion, here and in [`settle`].
     #[inline(never)]
     fn reserve(
@@ -80,24 +81,25 @@ impl Laying<'_> {
     ) -> Result<(), BuildFault>
         ensures table { OnOk result ((p : Path) → table.new.items ≡ table.old.items
             ++ record_with self.now.root.now (length table.old.items)
-            (place_at p node.now settings.now) [] ∷ []) }
+            (record { path = p; node = node.now; settings = settings.now }) [] ∷ []) }
         ensures pattern { Finds result (bad_itself (has_bad_pattern node.now)) }
     {
         let op = operation(self.alloc, &node.body, settings)?;
         let strict = node.strict.unwrap_or(settings.strict);
+        let validate_default = validates(&node.body).unwrap_or(settings.validate_default);
         match table.push(Record {
             op,
             children: Items::new(self.alloc),
             strict,
-            validate_default: settings.validate_default,
+            validate_default,
         }) {
             Ok(()) => Ok(()),
             Err(_) => Err(BuildFault::Memory),
         }
     }
 
-    /// Lays a node and all inside it, and gives its number. Nothing configures a node yet, so that
-    /// the settings in force around it are those in force in it.
+    /// Lays a node and all inside it, and gives its number. The settings are those in force around
+    /// it.
     #[cycle(lay)]
     #[tactic(auto, using(crate::proofs::Searching::itself_fails, crate::proofs::Searching::inner_fails, crate::proofs::Searching::none_fails))]
     pub(crate) fn lay(
@@ -113,14 +115,15 @@ impl Laying<'_> {
     {
         let at = size(table);
         let own = number(at)?;
-        self.reserve(table, node, settings)?;
+        let inside = node.settings(settings);
+        self.reserve(table, node, inside)?;
         let mut children = Items::new(self.alloc);
-        self.lay_children(table, node, settings, &mut children)?;
+        self.lay_children(table, node, inside, &mut children)?;
         settle(table, at, children);
         Ok(own)
     }
 
-    /// Lays the child schemas of a node, and adds their numbers to `all`.
+    /// Lays the child schemas of a node by the settings in force in it, and adds their numbers to `all`.
     #[cycle(lay)]
     fn lay_children(
         &self,

@@ -1,5 +1,8 @@
+use pv_fields::FieldPlan;
 use pv_rules::GatherRule;
 use pv_scalar::Scalar;
+use pv_text::Text;
+use pv_tree::Tree;
 use sqlite_items::Items;
 
 /// What a node does with what its children give.
@@ -10,6 +13,12 @@ pub enum Op {
     /// each position, and a dict has one for the keys and one for the values.
     Gather(GatherRule),
     Nullable,
+    /// A list of fields. It has a child for each field, and one more for extra keys where a schema
+    /// of theirs is written.
+    Fields(FieldPlan),
+    Model { cls: Text, root_model: bool },
+    /// A default, and whether it stands in where the child fails.
+    Default { default: Tree, use_on_error: bool },
 }
 
 /// A node of a schema by its number. Its children are numbers of records, in the order of their

@@ -15,7 +15,7 @@ lay-settle-requires t c =
 
 pub lay-returns-clause-table : goal.lay-returns-clause-table
 lay-returns-clause-table t c p =
-    laid c.args.self.now.root.now c.args.self.now.last p c.args.settings.now c.args.node.now _ _ _ _ _ _ _ c.size-at.ensures (c.in_ok-reserve.ensures.table p)
+    laid c.args.self.now.root.now c.args.self.now.last p c.args.settings.now c.settings-inside.result.now c.args.node.now _ _ _ _ _ _ _ c.settings-inside.ensures c.size-at.ensures (c.in_ok-reserve.ensures.table p)
     (c.in_ok-lay_children.ensures.table p) c.new-children.ensures c.in_ok-lay_children.ensures.numbers c.settle.ensures
 
 pub lay_children-loop-place-init : goal.lay_children-loop-place-init

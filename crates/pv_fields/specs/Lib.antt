@@ -1,0 +1,5 @@
+pub mod Paths
+pub mod Finding
+pub mod FieldList
+pub mod Kept
+pub mod Planned
