@@ -12,8 +12,8 @@ use Rattle.pv_tree.specs.declared.Tree.TheOpen.{Tree-F}
 use Rattle.pv_tree.specs.declared.Tree.TheViews.{roll-Tree}
 use Rattle.pv_schema.specs.Find.{find}
 use Rattle.pv_schema.specs.Keys.{text, itself, tree_at}
-use Rattle.pv_schema.specs.Table.{ObjectRow, TypeRow, kind_under, node_types}
-use Rattle.pv_schema.specs.Checking.{Checked, checked, check_step, faults, value_faults, row_of, row_faults, rest_faults, object_faults, member_faults, faults_under, typed_faults, item_faults, list_faults, level_faults, all_under}
+use Rattle.pv_schema.specs.Table.{ObjectRow, TypeRow, kind_under, node_types, field_types, config}
+use Rattle.pv_schema.specs.Checking.{Checked, checked, check_step, faults, value_faults, row_of, row_faults, rest_faults, object_faults, member_faults, faults_under, typed_faults, untyped_faults, each_faults, named_faults, item_faults, list_faults, level_faults, all_under}
 use Rattle.pv_schema.specs.declared.key.Key.TheVariants as key
 use Rattle.pv_schema.specs.declared.fault.Code.{Code}
 use Rattle.pv_schema.specs.declared.fault.Refusal.{Refusal}
@@ -94,6 +94,26 @@ module _ {X : Type 0} (v : X → Tree) (k : Tree → Kind → List Refusal) wher
   typed_natural rows (Tree-F.Array xs) = refl
   typed_natural rows (Tree-F.Object d) = typed_mapped rows d.members
 
+  object_natural : (o : ObjectRow) (x : Tree-F X) → untyped_faults v (λ y. k (v y)) o (members_at x) ≡ untyped_faults itself k o (members_at (map-Tree X Tree v x))
+  object_natural o Tree-F.Null = refl
+  object_natural o (Tree-F.Bool b) = refl
+  object_natural o (Tree-F.Num l) = refl
+  object_natural o (Tree-F.Str s) = refl
+  object_natural o (Tree-F.Array xs) = refl
+  object_natural o (Tree-F.Object d) = object_mapped o d.members
+
+  each_mapped : (a : Kind) (ms : List (List ℕ × X)) → each_faults v (λ y. k (v y)) a ms ≡ each_faults itself k a (mapped v ms)
+  each_mapped a [] = refl
+  each_mapped a (m ∷ ms) = ap (λ more. all_under (Name m.0) (k (v m.1) a) ++ more) (each_mapped a ms)
+
+  named_natural : (a : Kind) (x : Tree-F X) → named_faults v (λ y. k (v y)) a (members_at x) ≡ named_faults itself k a (members_at (map-Tree X Tree v x))
+  named_natural a Tree-F.Null = refl
+  named_natural a (Tree-F.Bool b) = refl
+  named_natural a (Tree-F.Num l) = refl
+  named_natural a (Tree-F.Str s) = refl
+  named_natural a (Tree-F.Array xs) = refl
+  named_natural a (Tree-F.Object d) = each_mapped a d.members
+
   list_natural : (a : Kind) (x : Tree-F X) → list_faults v (λ y. k (v y)) a (items_at x) ≡ list_faults itself k a (items_at (map-Tree X Tree v x))
   list_natural a Tree-F.Null = refl
   list_natural a (Tree-F.Bool b) = refl
@@ -106,6 +126,9 @@ module _ {X : Type 0} (v : X → Tree) (k : Tree → Kind → List Refusal) wher
   level_natural (kind.Value w) x = ap (λ y. value_faults w (roll-Tree y)) (sym (level_same (map-Tree X Tree v x)))
   level_natural kind.Schema x = typed_natural node_types x
   level_natural kind.Schemas x = list_natural kind.Schema x
+  level_natural (kind.Fields f) x = named_natural (kind.Field f) x
+  level_natural (kind.Field f) x = typed_natural (field_types f) x
+  level_natural kind.Config x = object_natural config x
   level_natural kind.NotBuilt x = refl
 
 natural : (X : Type 0) (v : X → Tree) (k : Tree → Checked) (x : Tree-F X)

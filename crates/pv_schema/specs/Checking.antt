@@ -2,7 +2,7 @@
 -- object and is none, or has no type that is known, is refused for that alone. In any other object
 -- comes what is wrong with its keys, in the order in which they stand, then the keys that have to
 -- be there and are not, in the order of the table, and then what does not fit together.
-use Rattle.std.specs.Prelude.{ℕ, ◌+◌, Bool, true, false, not, nat_lt, if◌then◌else◌}
+use Rattle.std.specs.Prelude.{ℕ, ◌+◌, Bool, true, false, not, ◌&&◌, nat_lt, if◌then◌else◌}
 use Rattle.std.specs.Prelude.{List, [], ◌∷◌, ◌++◌, map, length}
 use Rattle.std.specs.Prelude.{Option, None, Some, is_some, Result, Ok, Err}
 use Rattle.std.specs.List.{flat_map}
@@ -17,10 +17,12 @@ use Rattle.pv_rules.specs.declared.Literal.{Literal}
 use Rattle.pv_rules.specs.declared.Literal.TheVariants as literal
 use Rattle.pv_rules.specs.declared.SubType.{SubType}
 use Rattle.pv_rules.specs.declared.SubType.TheVariants as sub_type
-use Rattle.pv_schema_values.specs.Values.{is_value, text_of, count_of, members_of, sub_type_of}
+use Rattle.pv_schema_values.specs.Values.{is_value, is_false, text_of, flag_of, count_of, members_of}
+use Rattle.pv_schema_values.specs.Values.{sub_type_of}
 use Rattle.pv_schema_values.specs.declared.ValueKind.{ValueKind}
 use Rattle.pv_schema.specs.Keys.{text, tree_at}
 use Rattle.pv_schema.specs.Table.{ObjectRow, TypeRow, row_named, keys, kind_under, node_types}
+use Rattle.pv_schema.specs.Table.{field_types, config}
 use Rattle.pv_schema.specs.declared.fault.Code.{Code}
 use Rattle.pv_schema.specs.declared.fault.Code.TheVariants.{Shape, NotYet}
 use Rattle.pv_schema.specs.declared.fault.ShapeCode.TheVariants.{NotObject, MissingKey}
@@ -34,7 +36,7 @@ use Rattle.pv_schema.specs.declared.row.Fit.{Fit}
 use Rattle.pv_schema.specs.declared.row.Fit.TheVariants as fit
 use Rattle.pv_schema.specs.declared.row.KeyRow.{KeyRow}
 use Rattle.pv_schema.specs.declared.row.Makes.{Makes}
-use Rattle.pv_schema.specs.declared.row.Makes.TheVariants.{NotBuilt, Node}
+use Rattle.pv_schema.specs.declared.row.Makes.TheVariants.{NotBuilt, Node, Field}
 use Rattle.pv_schema.specs.declared.row.Test.{Test}
 
 -- a refusal at the place itself
@@ -57,6 +59,7 @@ at_key k code = under (Name (text k)) (refused code)
 abbrev pub where_built : Makes → TypeRow → Result TypeRow Code
 where_built NotBuilt r = Err NotYet
 where_built (Node n) r = Ok r
+where_built Field r = Ok r
 
 -- the row that was found, or what is wrong where there is none
 abbrev pub row_found : Option TypeRow → Result TypeRow Code
@@ -104,10 +107,12 @@ are_of None ms = true
 are_of (Some s) None = true
 are_of (Some s) (Some ms) = all_are_of s ms
 
--- whether a value fits another: a place lies in a list, members are of a sub type
+-- whether a value fits another: a place lies in a list, members are of a sub type, or of two flags
+-- not both are false
 unfoldable pub fits : Fit → Tree → Tree → Bool
 fits fit.PlaceInList place items = is_below (count_of place) (items_size items)
 fits fit.OfSubType s members = are_of (sub_type_of s) (members_of members)
+fits fit.NotBothFalse t u = not (is_false (flag_of t) && is_false (flag_of u))
 
 -- what is wrong where two values are there and do not fit
 abbrev pub misfit : Test → Option Tree → Option Tree → List Refusal
@@ -165,6 +170,20 @@ module _ {X : Type 0} (tree : X → Tree) (inner : X → Kind → List Refusal) 
   typed_faults rows None = refused (Shape NotObject) ∷ []
   typed_faults rows (Some ms) = row_faults (row_of rows (tree_at tree ms key.Type)) ms
 
+  -- what is wrong with an object without a type, or with what is no object
+  abbrev pub untyped_faults : ObjectRow → Option (List (List ℕ × X)) → List Refusal
+  untyped_faults o None = refused (Shape NotObject) ∷ []
+  untyped_faults o (Some ms) = object_faults o ms
+
+  -- what is wrong with what stands under each name of an object, as a kind
+  abbrev pub each_faults : Kind → List (List ℕ × X) → List Refusal
+  each_faults k ms = flat_map (λ m. all_under (Name m.0) (inner m.1 k)) ms
+
+  -- the same, or what is wrong with what is no object
+  abbrev pub named_faults : Kind → Option (List (List ℕ × X)) → List Refusal
+  named_faults k None = refused (Shape BadValue) ∷ []
+  named_faults k (Some ms) = each_faults k ms
+
   -- what is wrong with items as a kind, from a place on
   abbrev pub item_faults : Kind → ℕ → List X → List Refusal
   item_faults k i [] = []
@@ -180,6 +199,9 @@ module _ {X : Type 0} (tree : X → Tree) (inner : X → Kind → List Refusal) 
   level_faults (kind.Value v) x = value_faults v (roll-Tree (map-Tree X Tree tree x))
   level_faults kind.Schema x = typed_faults node_types (members_at x)
   level_faults kind.Schemas x = list_faults kind.Schema (items_at x)
+  level_faults (kind.Fields k) x = named_faults (kind.Field k) (members_at x)
+  level_faults (kind.Field k) x = typed_faults (field_types k) (members_at x)
+  level_faults kind.Config x = untyped_faults config (members_at x)
   level_faults kind.NotBuilt x = refused NotYet ∷ []
 
 -- what is wrong with a tree as each kind

@@ -6,4 +6,3 @@ pub mod Checking
 pub mod Making
 pub mod Answers
 pub mod Reading
-pub mod Allowed

@@ -2,6 +2,8 @@
 -- under it, whether it has to be there, whether it has an effect, and the tests that come last.
 use Rattle.std.specs.Prelude.{ℕ, true, false, if◌then◌else◌, List, [], ◌∷◌, ◌++◌, codes}
 use Rattle.std.specs.Prelude.{Option, None, Some, bytes_eq}
+use Rattle.pv_rules.specs.declared.FieldsKind.{FieldsKind}
+use Rattle.pv_rules.specs.declared.FieldsKind.TheVariants as fields
 use Rattle.pv_schema_values.specs.declared.ValueKind.TheVariants as value
 use Rattle.pv_schema.specs.Keys.{text}
 use Rattle.pv_schema.specs.declared.key.Key.{Key}
@@ -14,7 +16,7 @@ use Rattle.pv_schema.specs.declared.row.KeyRow.{KeyRow}
 use Rattle.pv_schema.specs.declared.row.Fit.TheVariants as fit
 use Rattle.pv_schema.specs.declared.row.Test.{Test}
 use Rattle.pv_schema.specs.declared.row.Makes.{Makes}
-use Rattle.pv_schema.specs.declared.row.Makes.TheVariants.{NotBuilt, Node}
+use Rattle.pv_schema.specs.declared.row.Makes.TheVariants.{NotBuilt, Node, Field}
 
 -- what an object takes: keys that it shares with others, keys of its own, and tests
 pub record ObjectRow : Type 0 where
@@ -136,6 +138,51 @@ dict_keys = may key.KeysSchema kind.Schema ∷ may key.ValuesSchema kind.Schema 
 abbrev pub nullable_keys : List KeyRow
 nullable_keys = must key.Schema kind.Schema ∷ []
 
+-- the keys of a default
+abbrev pub default_keys : List KeyRow
+default_keys =
+    must key.Schema kind.Schema
+    ∷ must key.Default (kind.Value value.Anything)
+    ∷ may key.ValidateDefault (kind.Value value.Flag)
+    ∷ may key.OnError (kind.Value value.OnError)
+    ∷ idle key.CopyDefault (kind.Value value.Flag)
+    ∷ []
+
+-- the keys of the fields of a model
+abbrev pub model_fields_keys : List KeyRow
+model_fields_keys =
+    must key.Fields (kind.Fields fields.Model)
+    ∷ may key.ExtraBehavior (kind.Value value.ExtraBehavior)
+    ∷ may key.ExtrasSchema kind.Schema
+    ∷ idle key.ModelName (kind.Value value.Text)
+    ∷ idle key.FromAttributes (kind.Value value.Flag)
+    ∷ idle key.ComputedFields (kind.Value value.EmptyList)
+    ∷ []
+
+-- the keys of a typed dict
+abbrev pub typed_dict_keys : List KeyRow
+typed_dict_keys =
+    must key.Fields (kind.Fields fields.TypedDict)
+    ∷ may key.ExtraBehavior (kind.Value value.ExtraBehavior)
+    ∷ may key.ExtrasSchema kind.Schema
+    ∷ idle key.ComputedFields (kind.Value value.EmptyList)
+    ∷ may key.Cls (kind.Value value.Text)
+    ∷ may key.Total (kind.Value value.Flag)
+    ∷ may key.Config kind.Config
+    ∷ []
+
+-- the keys of a model
+abbrev pub model_keys : List KeyRow
+model_keys =
+    must key.Cls (kind.Value value.Text)
+    ∷ must key.Schema kind.Schema
+    ∷ may key.RootModel (kind.Value value.Flag)
+    ∷ may key.Config kind.Config
+    ∷ idle key.CustomInit (kind.Value value.False)
+    ∷ idle key.Frozen (kind.Value value.Flag)
+    ∷ idle key.RevalidateInstances (kind.Value value.Revalidation)
+    ∷ []
+
 -- a type of nodes with these keys besides those of every node, and these tests
 abbrev pub tested : List ℕ → NodeType → List KeyRow → List Test → TypeRow
 tested name n own tests = record {
@@ -175,10 +222,10 @@ node_types =
     ∷ tested (codes "tuple") node.Tuple tuple_keys (tuple_test ∷ [])
     ∷ built (codes "dict") node.Dict dict_keys
     ∷ built (codes "nullable") node.Nullable nullable_keys
-    ∷ not_built (codes "default")
-    ∷ not_built (codes "model-fields")
-    ∷ not_built (codes "typed-dict")
-    ∷ not_built (codes "model")
+    ∷ built (codes "default") node.Default default_keys
+    ∷ built (codes "model-fields") node.ModelFields model_fields_keys
+    ∷ built (codes "typed-dict") node.TypedDict typed_dict_keys
+    ∷ built (codes "model") node.Model model_keys
     ∷ not_built (codes "union")
     ∷ not_built (codes "tagged-union")
     ∷ not_built (codes "lax-or-strict")
@@ -191,6 +238,61 @@ node_types =
     ∷ not_built (codes "definitions")
     ∷ not_built (codes "definition-ref")
     ∷ []
+
+-- the keys that every field takes
+abbrev pub field_keys : List KeyRow
+field_keys =
+    must key.Type (kind.Value value.Text)
+    ∷ must key.Schema kind.Schema
+    ∷ may key.ValidationAlias (kind.Value value.Alias)
+    ∷ may key.SerializationAlias (kind.Value value.Text)
+    ∷ may key.SerializationExclude (kind.Value value.Flag)
+    ∷ idle key.Metadata (kind.Value value.Anything)
+    ∷ []
+
+-- a type of fields with this key besides those of every field
+abbrev pub field_type : List ℕ → KeyRow → TypeRow
+field_type name own = record {
+  name = name;
+  makes = Field;
+  object = record { shared = field_keys; own = own ∷ []; tests = [] };
+}
+
+-- the types of fields of each kind: one
+abbrev pub field_types : FieldsKind → List TypeRow
+field_types fields.Model =
+    field_type (codes "model-field") (idle key.Frozen (kind.Value value.Flag)) ∷ []
+field_types fields.TypedDict =
+    field_type (codes "typed-dict-field") (may key.Required (kind.Value value.Flag)) ∷ []
+
+-- the keys of a config, which has no type
+abbrev pub config_keys : List KeyRow
+config_keys =
+    may key.Title (kind.Value value.Text)
+    ∷ may key.Strict (kind.Value value.Flag)
+    ∷ may key.ExtraFieldsBehavior (kind.Value value.ExtraBehavior)
+    ∷ may key.PopulateByName (kind.Value value.Flag)
+    ∷ may key.ValidateByAlias (kind.Value value.Flag)
+    ∷ may key.ValidateByName (kind.Value value.Flag)
+    ∷ may key.SerializeByAlias (kind.Value value.Flag)
+    ∷ may key.LocByAlias (kind.Value value.Flag)
+    ∷ may key.ValidateDefault (kind.Value value.Flag)
+    ∷ may key.StrStripWhitespace (kind.Value value.Flag)
+    ∷ may key.StrMinLength (kind.Value value.Count)
+    ∷ may key.StrMaxLength (kind.Value value.Count)
+    ∷ []
+
+-- a config forbids reading by alias or reading by name, and not both
+abbrev pub config_test : Test
+config_test = record {
+  key = key.ValidateByName;
+  other = key.ValidateByAlias;
+  fit = fit.NotBothFalse;
+}
+
+-- what a config takes
+abbrev pub config : ObjectRow
+config = record { shared = []; own = config_keys; tests = config_test ∷ [] }
 
 -- the row of the type of this name
 abbrev pub row_named : List ℕ → List TypeRow → Option TypeRow

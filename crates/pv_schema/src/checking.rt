@@ -3,7 +3,7 @@
 ghost use Rattle.std.specs.Prelude.{◌≡◌, Some};
 ghost use Rattle.std.specs.List.{flat_map};
 ghost use Rattle.pv_tree.specs.Parts.{items_at, members_at};
-ghost use Rattle.pv_tree.specs.declared.Step.TheVariants.{Index};
+ghost use Rattle.pv_tree.specs.declared.Step.TheVariants.{Index, Name};
 ghost use Rattle.pv_tree.specs.declared.Tree.{out-Tree};
 ghost use Rattle.pv_schema.specs.Answers.{Answers};
 ghost use Rattle.pv_schema.specs.Checking as spec;
@@ -19,7 +19,7 @@ use crate::kind::Kind;
 use crate::listing::{kind_under, row_of};
 use crate::refusing::{refused, refused_at, under_item, under_key};
 use crate::row::{ObjectRow, TypeRow};
-use crate::table::node_types;
+use crate::table::{config, field_types, node_types};
 use pv_schema_values::{ValueKind, is_value};
 use pv_text::Text;
 use pv_tree::{Members, Tree};
@@ -111,6 +111,56 @@ fn check_typed(alloc: Global, rows: &[TypeRow], tree: &Tree) -> Result<(), Check
     }
 }
 
+/// An object without a type.
+#[cycle(check)]
+fn check_untyped(alloc: Global, object: ObjectRow, tree: &Tree) -> Result<(), CheckFault>
+    ensures { Answers result
+        (spec.untyped_faults itself faults (object_in object) (members_at (out-Tree tree.now))) }
+{
+    match tree {
+        Tree::Object(members) => check_object(alloc, object, members),
+        Tree::Null | Tree::Bool(_) | Tree::Num(_) | Tree::Str(_) | Tree::Array(_) => {
+            Err(refused(alloc, Code::Shape(ShapeCode::NotObject)))
+        }
+    }
+}
+
+/// What stands under a name, as a kind.
+#[cycle(check)]
+fn check_named(alloc: Global, kind: Kind, name: &Text, value: &Tree) -> Result<(), CheckFault>
+    ensures { Answers result (spec.all_under (Name name.now) (faults value.now kind)) }
+{
+    match check(alloc, kind, value) {
+        Ok(()) => Ok(()),
+        Err(fault) => Err(under_key(alloc, fault, name.as_str())),
+    }
+}
+
+/// What stands under each name of an object, as a kind.
+#[cycle(check)]
+fn check_each(alloc: Global, kind: Kind, members: &Members) -> Result<(), CheckFault>
+    ensures { Answers result (spec.each_faults itself faults kind members.now.members) }
+{
+    for (name, value) in members.as_slice() {
+        check_named(alloc, kind, name, value)?;
+    }
+    Ok(())
+}
+
+/// An object under whose names stands what is of a kind.
+#[cycle(check)]
+fn check_names(alloc: Global, kind: Kind, tree: &Tree) -> Result<(), CheckFault>
+    ensures { Answers result
+        (spec.named_faults itself faults kind (members_at (out-Tree tree.now))) }
+{
+    match tree {
+        Tree::Object(members) => check_each(alloc, kind, members),
+        Tree::Null | Tree::Bool(_) | Tree::Num(_) | Tree::Str(_) | Tree::Array(_) => {
+            Err(refused(alloc, Code::Shape(ShapeCode::BadValue)))
+        }
+    }
+}
+
 #[cycle(check)]
 fn check_item(alloc: Global, kind: Kind, place: u64, item: &Tree) -> Result<(), CheckFault>
     ensures { Answers result (spec.all_under (Index place) (faults item.now kind)) }
@@ -155,6 +205,9 @@ pub(crate) fn check(alloc: Global, kind: Kind, tree: &Tree) -> Result<(), CheckF
         Kind::Value(kind) => check_value(alloc, kind, tree),
         Kind::Schema => check_typed(alloc, node_types(), tree),
         Kind::Schemas => check_list(alloc, Kind::Schema, tree),
+        Kind::Fields(kind) => check_names(alloc, Kind::Field(kind), tree),
+        Kind::Field(kind) => check_typed(alloc, field_types(kind), tree),
+        Kind::Config => check_untyped(alloc, config(), tree),
         Kind::NotBuilt => Err(refused(alloc, Code::NotYet)),
     }
 }

@@ -13,7 +13,7 @@ use crate::finding::find;
 use crate::refusing::refused_at;
 use crate::row::{Fit, KeyRow, ObjectRow, Test};
 use pv_rules::{EnumMember, Literal, SubType};
-use pv_schema_values::{count_of, members_of, sub_type_of};
+use pv_schema_values::{count_of, flag_of, members_of, sub_type_of};
 use pv_text::{Memory, Text};
 use pv_tree::Tree;
 use std::alloc::Global;
@@ -92,12 +92,27 @@ fn members_fit(alloc: Global, sub_type: &Tree, members: &Tree) -> Result<bool, M
     }
 }
 
+/// Whether of two flags not both are false.
+#[tactic(auto, unfolding(crate::specs::Checking::fits))]
+fn not_both_false(flag: &Tree, other: &Tree) -> bool
+    ensures { result ≡ spec.fits fit.NotBothFalse flag.now other.now }
+{
+    match (flag_of(flag), flag_of(other)) {
+        (Some(false), Some(false)) => false,
+        (Some(false), Some(true)) => true,
+        (Some(false), None) => true,
+        (Some(true), _) => true,
+        (None, _) => true,
+    }
+}
+
 fn fits(alloc: Global, fit: Fit, value: &Tree, other: &Tree) -> Result<bool, Memory>
     ensures { IfOk result (λ b. b ≡ spec.fits fit value.now other.now) }
 {
     match fit {
         Fit::PlaceInList => Ok(place_fits(value, other)),
         Fit::OfSubType => members_fit(alloc, value, other),
+        Fit::NotBothFalse => Ok(not_both_false(value, other)),
     }
 }
 

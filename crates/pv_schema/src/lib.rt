@@ -6,13 +6,14 @@
 
 mod check_fault;
 mod checking;
+mod configs;
 mod fault;
+mod fields;
 mod finding;
 mod fitting;
 mod key;
 mod keys;
 mod kind;
-mod laws;
 mod listing;
 mod making;
 mod node_type;
@@ -25,8 +26,7 @@ mod table;
 pub use fault::{SchemaFault, ShapeCode};
 pub use key::Key;
 pub use kind::Kind;
-pub use laws::what_is_read_is_allowed;
 pub use node_type::NodeType;
 pub use reading::read_schema;
 pub use row::{Fit, KeyRow, Makes, ObjectRow, Test, TypeRow};
-pub use table::node_types;
+pub use table::{config, field_types, node_types};

@@ -43,6 +43,7 @@ fn row_of_value(rows: &[TypeRow], value: &Tree) -> Result<TypeRow, Code>
     match row.makes {
         Makes::NotBuilt => Err(Code::NotYet),
         Makes::Node(_) => Ok(row),
+        Makes::Field => Ok(row),
     }
 }
 

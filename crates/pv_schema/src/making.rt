@@ -5,20 +5,23 @@ ghost use Rattle.pv_rules.specs.declared.ScalarRule.TheVariants as rule;
 ghost use Rattle.pv_tree.specs.Parts.{items_at, members_at};
 ghost use Rattle.pv_tree.specs.declared.Tree.{out-Tree};
 ghost use Rattle.pv_schema_values.specs.Values as value;
+ghost use Rattle.pv_node.specs.Absent.{or_any};
 ghost use Rattle.pv_schema.specs.Keys.{itself, tree_at};
 ghost use Rattle.pv_schema.specs.Making as spec;
 ghost use Rattle.pv_schema.specs.Making.{made, or_empty, read};
-ghost use Rattle.pv_schema.specs.declared.kind.Kind.TheVariants as kind;
+ghost use Rattle.pv_schema.specs.declared.kind.Kind.TheVariants as kinds;
 
 use crate::key::Key;
-use crate::keys::{flag_at, literals_at, version_at};
+use crate::configs::config_at;
+use crate::fields::fields_rule;
+use crate::keys::{default_at, flag_at, flag_or, literals_at, on_error_at, text_at, version_at};
 use crate::listing::row_of;
 use crate::node_type::NodeType;
 use crate::row::Makes;
-use crate::rules::{bytes_rule, enum_rule, gather_rule, int_rule, str_rule, tuple_rule, url_rule};
+use crate::rules::{bytes_rule, class_name, enum_rule, gather_rule, int_rule, str_rule, tuple_rule, url_rule};
 use crate::table::node_types;
 use pv_node::{Body, Node, any_node};
-use pv_rules::{Collection, ScalarRule};
+use pv_rules::{Collection, FieldsKind, ScalarRule, Settings};
 use pv_text::{Memory, Text};
 use pv_tree::{Members, Tree};
 use sqlite_items::{Boxed, Items};
@@ -28,7 +31,7 @@ use std::alloc::Global;
 #[cycle(make)]
 fn make_child(alloc: Global, members: &Members, key: Key) -> Result<Option<Boxed<Node>>, Memory>
     ensures { IfOk result (λ node. node
-        ≡ spec.part_at itself made members.now.members kind.Schema key) }
+        ≡ spec.part_at itself made members.now.members kinds.Schema key) }
 {
     for (name, value) in members.as_slice() {
         if key.text() == name.as_str() {
@@ -42,7 +45,7 @@ fn make_child(alloc: Global, members: &Members, key: Key) -> Result<Option<Boxed
 #[cycle(make)]
 fn make_children(alloc: Global, members: &Members, key: Key) -> Result<Items<Node>, Memory>
     ensures { IfOk result (λ nodes. nodes
-        ≡ or_empty (spec.part_at itself made members.now.members kind.Schemas key)) }
+        ≡ or_empty (spec.part_at itself made members.now.members kinds.Schemas key)) }
 {
     for (name, value) in members.as_slice() {
         if key.text() == name.as_str() {
@@ -56,7 +59,7 @@ fn make_children(alloc: Global, members: &Members, key: Key) -> Result<Items<Nod
 fn make_sequence(alloc: Global, collection: Collection, members: &Members) -> Result<Body, Memory>
     ensures { IfOk result (λ body. body
         ≡ Body.Sequence (spec.gather_rule (tree_at itself members.now.members) collection)
-        (spec.part_at itself made members.now.members kind.Schema Key.ItemsSchema)) }
+        (spec.part_at itself made members.now.members kinds.Schema Key.ItemsSchema)) }
 {
     Ok(Body::Sequence {
         rule: gather_rule(collection, members.as_slice()),
@@ -88,17 +91,162 @@ fn make_dict(alloc: Global, members: &Members) -> Result<Body, Memory>
     })
 }
 
+/// The schema under the key `schema`, where it has to stand.
+#[cycle(make)]
+fn make_inner(alloc: Global, members: &Members) -> Result<Node, Memory>
+    ensures { IfOk result (λ node. node
+        ≡ or_any (spec.part_at itself made members.now.members kinds.Schema Key.Schema)) }
+{
+    for (name, value) in members.as_slice() {
+        if Key::Schema.text() == name.as_str() {
+            return Ok(make_node(alloc, value)?);
+        }
+    }
+    Ok(any_node())
+}
+
+/// The schema of a field.
+#[cycle(make)]
+fn make_field_schema(alloc: Global, kind: FieldsKind, tree: &Tree) -> Result<Node, Memory>
+    ensures { IfOk result (λ node. node ≡ (made tree.now (kinds.Field kind)).schema) }
+{
+    match tree {
+        Tree::Object(members) => {
+            let schema = make_inner(alloc, members)?;
+            Ok(schema)
+        }
+        Tree::Null | Tree::Bool(_) | Tree::Num(_) | Tree::Str(_) | Tree::Array(_) => {
+            Ok(any_node())
+        }
+    }
+}
+
+/// The schemas of the fields that an object has.
+#[cycle(make)]
+fn make_field_schemas(
+    alloc: Global,
+    kind: FieldsKind,
+    fields: &Members,
+) -> Result<Items<Node>, Memory>
+    ensures { IfOk result (λ nodes. nodes
+        ≡ spec.field_schemas (spec.fields_in itself made kind fields.now.members)) }
+{
+    let mut nodes = Vec::with_capacity(alloc, fields.as_slice().len())?;
+    for (_, field) in fields.as_slice() {
+        nodes.push(make_field_schema(alloc, kind, field)?)?;
+    }
+    Ok(Items::from_vec(nodes))
+}
+
+/// The schemas of the fields that a tree has.
+#[cycle(make)]
+#[tactic(auto, using(crate::proofs::MakeOpens::schemas_open))]
+fn make_fields_of(alloc: Global, kind: FieldsKind, tree: &Tree) -> Result<Items<Node>, Memory>
+    ensures { IfOk result (λ nodes. nodes
+        ≡ spec.field_schemas (made tree.now (kinds.Fields kind))) }
+{
+    match tree {
+        Tree::Object(fields) => {
+            let schemas = make_field_schemas(alloc, kind, fields)?;
+            Ok(schemas)
+        }
+        Tree::Null | Tree::Bool(_) | Tree::Num(_) | Tree::Str(_) | Tree::Array(_) => {
+            Ok(Items::new(alloc))
+        }
+    }
+}
+
+/// The schemas of the fields under the key `fields`.
+#[cycle(make)]
+fn make_fields_under(
+    alloc: Global,
+    kind: FieldsKind,
+    members: &Members,
+) -> Result<Items<Node>, Memory>
+    ensures { IfOk result (λ nodes. nodes ≡ spec.field_schemas
+        (or_empty (spec.part_at itself made members.now.members (kinds.Fields kind) Key.Fields))) }
+{
+    for (name, value) in members.as_slice() {
+        if Key::Fields.text() == name.as_str() {
+            return Ok(make_fields_of(alloc, kind, value)?);
+        }
+    }
+    Ok(Items::new(alloc))
+}
+
+/// A node with fields of a kind.
+#[cycle(make)]
+fn make_fields(
+    alloc: Global,
+    kind: FieldsKind,
+    total: Option<bool>,
+    members: &Members,
+    config: Option<Settings>,
+    cls: Option<Text>,
+) -> Result<Body, Memory>
+    ensures { IfOk result (λ body. body ≡ spec.fields_body
+        (tree_at itself members.now.members) (spec.part_at itself made members.now.members)
+        kind total
+        (or_empty (spec.part_at itself made members.now.members (kinds.Fields kind) Key.Fields))
+        config cls) }
+{
+    Ok(Body::Fields {
+        rule: fields_rule(alloc, kind, total, members.as_slice())?,
+        fields: make_fields_under(alloc, kind, members)?,
+        extras_schema: make_child(alloc, members, Key::ExtrasSchema)?,
+        config,
+        cls,
+    })
+}
+
+#[cycle(make)]
+fn make_typed_dict(alloc: Global, members: &Members) -> Result<Body, Memory>
+    ensures { IfOk result (λ body. body
+        ≡ spec.body_in itself made members.now.members NodeType.TypedDict) }
+{
+    let keys = members.as_slice();
+    let total = flag_at(keys, Key::Total);
+    let config = config_at(alloc, keys)?;
+    let cls = text_at(alloc, keys, Key::Cls)?;
+    make_fields(alloc, FieldsKind::TypedDict, total, members, config, cls)
+}
+
+#[cycle(make)]
+fn make_model(alloc: Global, members: &Members) -> Result<Body, Memory>
+    ensures { IfOk result (λ body. body
+        ≡ spec.body_in itself made members.now.members NodeType.Model) }
+{
+    let keys = members.as_slice();
+    Ok(Body::Model {
+        cls: class_name(alloc, keys)?,
+        root_model: flag_or(false, keys, Key::RootModel),
+        config: config_at(alloc, keys)?,
+        schema: Boxed::new(alloc, make_inner(alloc, members)?)?,
+    })
+}
+
+#[cycle(make)]
+fn make_default(alloc: Global, members: &Members) -> Result<Body, Memory>
+    ensures { IfOk result (λ body. body
+        ≡ spec.body_in itself made members.now.members NodeType.Default) }
+{
+    let keys = members.as_slice();
+    Ok(Body::Default {
+        default: default_at(alloc, keys)?,
+        validate_default: flag_at(keys, Key::ValidateDefault),
+        on_error: on_error_at(keys),
+        schema: Boxed::new(alloc, make_inner(alloc, members)?)?,
+    })
+}
+
 #[cycle(make)]
 fn make_nullable(alloc: Global, members: &Members) -> Result<Body, Memory>
     ensures { IfOk result (λ body. body
         ≡ spec.body_in itself made members.now.members NodeType.Nullable) }
 {
-    match make_child(alloc, members, Key::Schema)? {
-        Some(schema) => Ok(Body::Nullable { schema }),
-        None => Ok(Body::Nullable {
-            schema: Boxed::new(alloc, any_node())?,
-        }),
-    }
+    Ok(Body::Nullable {
+        schema: Boxed::new(alloc, make_inner(alloc, members)?)?,
+    })
 }
 
 /// The values of which one is expected.
@@ -133,6 +281,12 @@ fn make_body(alloc: Global, node_type: NodeType, members: &Members) -> Result<Bo
         NodeType::Tuple => make_tuple(alloc, members),
         NodeType::Dict => make_dict(alloc, members),
         NodeType::Nullable => make_nullable(alloc, members),
+        NodeType::Default => make_default(alloc, members),
+        NodeType::ModelFields => {
+            make_fields(alloc, FieldsKind::Model, None, members, None, None)
+        }
+        NodeType::TypedDict => make_typed_dict(alloc, members),
+        NodeType::Model => make_model(alloc, members),
     }
 }
 
@@ -151,7 +305,7 @@ fn make_node_of_type(alloc: Global, node_type: NodeType, members: &Members) -> R
 
 #[cycle(make)]
 fn make_items(alloc: Global, items: &[Tree]) -> Result<Items<Node>, Memory>
-    ensures { IfOk result (λ nodes. nodes ≡ map (λ t. made t kind.Schema) items.now) }
+    ensures { IfOk result (λ nodes. nodes ≡ map (λ t. made t kinds.Schema) items.now) }
 {
     let mut nodes = Vec::with_capacity(alloc, items.len())?;
     for item in items {
@@ -164,7 +318,7 @@ fn make_items(alloc: Global, items: &[Tree]) -> Result<Items<Node>, Memory>
 #[cycle(make)]
 #[tactic(auto, using(crate::proofs::MakeOpens::nodes_open))]
 fn make_nodes(alloc: Global, tree: &Tree) -> Result<Items<Node>, Memory>
-    ensures { IfOk result (λ nodes. nodes ≡ made tree.now kind.Schemas) }
+    ensures { IfOk result (λ nodes. nodes ≡ made tree.now kinds.Schemas) }
 {
     match tree {
         Tree::Array(items) => {
@@ -180,11 +334,11 @@ fn make_nodes(alloc: Global, tree: &Tree) -> Result<Items<Node>, Memory>
 /// The schema that an object with these members is.
 #[cycle(make)]
 fn make_object(alloc: Global, members: &Members) -> Result<Node, Memory>
-    ensures { IfOk result (λ node. node ≡ spec.node_in itself made (Some members.now.members)) }
+    ensures { IfOk result (λ node. node ≡ spec.node_in itself made members.now.members) }
 {
     match row_of(node_types(), members.as_slice()) {
         Ok(row) => match row.makes {
-            Makes::NotBuilt => Ok(any_node()),
+            Makes::NotBuilt | Makes::Field => Ok(any_node()),
             Makes::Node(node_type) => make_node_of_type(alloc, node_type, members),
         },
         Err(_) => Ok(any_node()),
@@ -195,7 +349,7 @@ fn make_object(alloc: Global, members: &Members) -> Result<Node, Memory>
 #[cycle(make)]
 #[tactic(auto, using(crate::proofs::MakeOpens::node_opens))]
 pub(crate) fn make_node(alloc: Global, tree: &Tree) -> Result<Node, Memory>
-    ensures { IfOk result (λ node. node ≡ made tree.now kind.Schema) }
+    ensures { IfOk result (λ node. node ≡ made tree.now kinds.Schema) }
 {
     match tree {
         Tree::Object(members) => {

@@ -20,6 +20,8 @@ pub enum Fit {
     PlaceInList,
     /// The values of members are of a sub type.
     OfSubType,
+    /// Of two flags not both are false.
+    NotBothFalse,
 }
 
 /// What the value under a key has to fit, where both are there. The first key is refused.
@@ -45,6 +47,7 @@ pub enum Makes {
     /// The type is not built yet.
     NotBuilt,
     Node(NodeType),
+    Field,
 }
 
 /// A type by its name.

@@ -56,7 +56,8 @@ pub(crate) fn url_rule(alloc: Global, members: &[(Text, Tree)]) -> Result<UrlRul
     })
 }
 
-fn class_name(alloc: Global, members: &[(Text, Tree)]) -> Result<Text, Memory>
+/// The name of a class, where it has to stand.
+pub(crate) fn class_name(alloc: Global, members: &[(Text, Tree)]) -> Result<Text, Memory>
     ensures { IfOk result (λ text. text
         ≡ or_empty (read value.text_of (tree_at itself members.now Key.Cls))) }
 {

@@ -2,12 +2,13 @@
 
 ghost use Rattle.std.specs.Prelude.{◌≡◌};
 ghost use Rattle.pv_schema.specs.Table as spec;
-ghost use Rattle.pv_schema.specs.Rows.{types_in};
+ghost use Rattle.pv_schema.specs.Rows.{object_in, types_in};
 
 use crate::key::Key;
 use crate::kind::Kind;
 use crate::node_type::NodeType;
 use crate::row::{Fit, KeyRow, Makes, ObjectRow, Test, TypeRow};
+use pv_rules::FieldsKind;
 use pv_schema_values::ValueKind;
 
 /// A key that has to be there, or one that may, or one that may and has no effect.
@@ -151,6 +152,43 @@ const DICT: [KeyRow; 4] = [
 
 const NULLABLE: [KeyRow; 1] = [row!(must Schema, Kind::Schema)];
 
+const DEFAULT: [KeyRow; 5] = [
+    row!(must Schema, Kind::Schema),
+    row!(must Default, Kind::Value(ValueKind::Anything)),
+    row!(may ValidateDefault, FLAG),
+    row!(may OnError, Kind::Value(ValueKind::OnError)),
+    row!(idle CopyDefault, FLAG),
+];
+
+const MODEL_FIELDS: [KeyRow; 6] = [
+    row!(must Fields, Kind::Fields(FieldsKind::Model)),
+    row!(may ExtraBehavior, Kind::Value(ValueKind::ExtraBehavior)),
+    row!(may ExtrasSchema, Kind::Schema),
+    row!(idle ModelName, TEXT),
+    row!(idle FromAttributes, FLAG),
+    row!(idle ComputedFields, Kind::Value(ValueKind::EmptyList)),
+];
+
+const TYPED_DICT: [KeyRow; 7] = [
+    row!(must Fields, Kind::Fields(FieldsKind::TypedDict)),
+    row!(may ExtraBehavior, Kind::Value(ValueKind::ExtraBehavior)),
+    row!(may ExtrasSchema, Kind::Schema),
+    row!(idle ComputedFields, Kind::Value(ValueKind::EmptyList)),
+    row!(may Cls, TEXT),
+    row!(may Total, FLAG),
+    row!(may Config, Kind::Config),
+];
+
+const MODEL: [KeyRow; 7] = [
+    row!(must Cls, TEXT),
+    row!(must Schema, Kind::Schema),
+    row!(may RootModel, FLAG),
+    row!(may Config, Kind::Config),
+    row!(idle CustomInit, FALSE),
+    row!(idle Frozen, FLAG),
+    row!(idle RevalidateInstances, Kind::Value(ValueKind::Revalidation)),
+];
+
 static NODE_TYPES: [TypeRow; 31] = [
     node!("any", Any, &[], &[]),
     node!("none", None, &[], &[]),
@@ -168,10 +206,10 @@ static NODE_TYPES: [TypeRow; 31] = [
     node!("tuple", Tuple, &TUPLE, &TUPLE_TESTS),
     node!("dict", Dict, &DICT, &[]),
     node!("nullable", Nullable, &NULLABLE, &[]),
-    node!("default"),
-    node!("model-fields"),
-    node!("typed-dict"),
-    node!("model"),
+    node!("default", Default, &DEFAULT, &[]),
+    node!("model-fields", ModelFields, &MODEL_FIELDS, &[]),
+    node!("typed-dict", TypedDict, &TYPED_DICT, &[]),
+    node!("model", Model, &MODEL, &[]),
     node!("union"),
     node!("tagged-union"),
     node!("lax-or-strict"),
@@ -190,4 +228,73 @@ pub fn node_types() -> &'static [TypeRow]
     ensures { types_in result.now ≡ spec.node_types }
 {
     &NODE_TYPES
+}
+
+const FIELD_KEYS: [KeyRow; 6] = [
+    row!(must Type, TEXT),
+    row!(must Schema, Kind::Schema),
+    row!(may ValidationAlias, Kind::Value(ValueKind::Alias)),
+    row!(may SerializationAlias, TEXT),
+    row!(may SerializationExclude, FLAG),
+    row!(idle Metadata, Kind::Value(ValueKind::Anything)),
+];
+
+static MODEL_FIELD: [TypeRow; 1] = [TypeRow {
+    name: "model-field",
+    makes: Makes::Field,
+    object: ObjectRow {
+        shared: &FIELD_KEYS,
+        own: &[row!(idle Frozen, FLAG)],
+        tests: &[],
+    },
+}];
+
+static TYPED_DICT_FIELD: [TypeRow; 1] = [TypeRow {
+    name: "typed-dict-field",
+    makes: Makes::Field,
+    object: ObjectRow {
+        shared: &FIELD_KEYS,
+        own: &[row!(may Required, FLAG)],
+        tests: &[],
+    },
+}];
+
+/// The types of fields of a kind: one.
+pub fn field_types(kind: FieldsKind) -> &'static [TypeRow]
+    ensures { types_in result.now ≡ spec.field_types kind }
+{
+    match kind {
+        FieldsKind::Model => &MODEL_FIELD,
+        FieldsKind::TypedDict => &TYPED_DICT_FIELD,
+    }
+}
+
+static CONFIG: ObjectRow = ObjectRow {
+    shared: &[],
+    own: &[
+        row!(may Title, TEXT),
+        row!(may Strict, FLAG),
+        row!(may ExtraFieldsBehavior, Kind::Value(ValueKind::ExtraBehavior)),
+        row!(may PopulateByName, FLAG),
+        row!(may ValidateByAlias, FLAG),
+        row!(may ValidateByName, FLAG),
+        row!(may SerializeByAlias, FLAG),
+        row!(may LocByAlias, FLAG),
+        row!(may ValidateDefault, FLAG),
+        row!(may StrStripWhitespace, FLAG),
+        row!(may StrMinLength, COUNT),
+        row!(may StrMaxLength, COUNT),
+    ],
+    tests: &[Test {
+        key: Key::ValidateByName,
+        other: Key::ValidateByAlias,
+        fit: Fit::NotBothFalse,
+    }],
+};
+
+/// What a config takes. It has no type.
+pub fn config() -> ObjectRow
+    ensures { object_in result ≡ spec.config }
+{
+    CONFIG
 }

@@ -14,3 +14,7 @@ invariant-check_members-loop-name l =
 abbrev pub invariant-check_items-loop-place : goal.invariant-check_items-loop-place
 invariant-check_items-loop-place l =
     spec.item_faults itself faults l.kind l.place (drop l.place l.items) ≡ spec.item_faults itself faults l.kind 0 l.items
+
+abbrev pub invariant-check_each-loop-name : goal.invariant-check_each-loop-name
+invariant-check_each-loop-name l =
+    spec.each_faults itself faults l.kind (drop l.name-index l.name-items) ≡ spec.each_faults itself faults l.kind l.members.members

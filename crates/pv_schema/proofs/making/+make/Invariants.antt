@@ -1,7 +1,9 @@
 use Rattle.std.proofs.Common.{◌≡◌, drop, take, map}
 use Rattle.pv_schema.specs.Find.{find}
-use Rattle.pv_schema.specs.Keys.{text}
+use Rattle.pv_schema.specs.Keys.{itself, text}
+use Rattle.pv_schema.specs.Making as spec
 use Rattle.pv_schema.specs.Making.{made}
+use Rattle.pv_schema.specs.declared.key.Key.TheVariants as key
 use Rattle.pv_schema.specs.declared.kind.Kind.TheVariants as kind
 use Rattle.pv_schema.proofs.making.+make.Given as goal
 
@@ -13,3 +15,13 @@ invariant-make_children-loop-name l = find (text l.key) (drop l.name-index l.nam
 
 abbrev pub invariant-make_items-loop-item : goal.invariant-make_items-loop-item
 invariant-make_items-loop-item l = l.nodes.items ≡ map (λ t. made t kind.Schema) (take l.item-index l.items)
+
+abbrev pub invariant-make_inner-loop-name : goal.invariant-make_inner-loop-name
+invariant-make_inner-loop-name l = find (text key.Schema) (drop l.name-index l.name-items) ≡ find (text key.Schema) l.members.members
+
+abbrev pub invariant-make_fields_under-loop-name : goal.invariant-make_fields_under-loop-name
+invariant-make_fields_under-loop-name l = find (text key.Fields) (drop l.name-index l.name-items) ≡ find (text key.Fields) l.members.members
+
+abbrev pub invariant-make_field_schemas-loop-field : goal.invariant-make_field_schemas-loop-field
+invariant-make_field_schemas-loop-field l =
+    l.nodes.items ≡ spec.field_schemas (spec.fields_in itself made l.kind (take l.field-index l.field-items))
