@@ -6,3 +6,4 @@ pub mod Checking
 pub mod Making
 pub mod Answers
 pub mod Reading
+pub mod Allowed

@@ -265,7 +265,6 @@ module _ (at : Key → Option Tree) (part : (k : Kind) → Key → Option (MadeA
       (part kind.Schema key.KeysSchema)
       (part kind.Schema key.ValuesSchema)
   body_of node.Nullable = body.Nullable (or_any (part kind.Schema key.Schema))
-
   body_of node.Default = body.Default
       (or_null (at key.Default))
       (read flag_of (at key.ValidateDefault))

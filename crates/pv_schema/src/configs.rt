@@ -36,11 +36,7 @@ fn title(alloc: Global, members: &[(Text, Tree)], cls: Option<Text>) -> Result<O
 }
 
 /// The settings of a config with these members, in a node of this class.
-fn settings(
-    alloc: Global,
-    members: &[(Text, Tree)],
-    cls: Option<Text>,
-) -> Result<Settings, Memory>
+fn settings(alloc: Global, members: &[(Text, Tree)], cls: Option<Text>) -> Result<Settings, Memory>
     ensures { IfOk result (λ settings. settings
         ≡ spec.titled cls (spec.settings (tree_at itself members.now))) }
 {
@@ -74,10 +70,7 @@ fn settings_of(alloc: Global, tree: &Tree, cls: Option<Text>) -> Result<Settings
 
 /// The settings that a node configures. Their title is the name of its class where they have none.
 #[tactic(auto, using(crate::proofs::MakeOpens::part_found))]
-pub(crate) fn config_at(
-    alloc: Global,
-    members: &[(Text, Tree)],
-) -> Result<Option<Settings>, Memory>
+pub(crate) fn config_at(alloc: Global, members: &[(Text, Tree)]) -> Result<Option<Settings>, Memory>
     ensures { IfOk result (λ config. config
         ≡ option_map (spec.titled (read value.text_of (tree_at itself members.now Key.Cls)))
         (spec.part_at itself made members.now kinds.Config Key.Config)) }

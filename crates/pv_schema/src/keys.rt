@@ -10,8 +10,8 @@ use crate::finding::find;
 use crate::key::Key;
 use pv_rules::{AliasRule, EnumMember, ExtraBehavior, Literal, OnError, SubType};
 use pv_schema_values::{
-    alias_of, count_of, extra_behavior_of, flag_of, on_error_of, int_of, literals_of, members_of, positive_of, sub_type_of, text_of,
-    texts_of, version_of,
+    alias_of, count_of, extra_behavior_of, flag_of, int_of, literals_of, members_of, on_error_of,
+    positive_of, sub_type_of, text_of, texts_of, version_of,
 };
 use pv_text::{Memory, Text};
 use pv_tree::{Names, Tree};

@@ -11,14 +11,16 @@ ghost use Rattle.pv_schema.specs.Making as spec;
 ghost use Rattle.pv_schema.specs.Making.{made, or_empty, read};
 ghost use Rattle.pv_schema.specs.declared.kind.Kind.TheVariants as kinds;
 
-use crate::key::Key;
 use crate::configs::config_at;
 use crate::fields::fields_rule;
+use crate::key::Key;
 use crate::keys::{default_at, flag_at, flag_or, literals_at, on_error_at, text_at, version_at};
 use crate::listing::row_of;
 use crate::node_type::NodeType;
 use crate::row::Makes;
-use crate::rules::{bytes_rule, class_name, enum_rule, gather_rule, int_rule, str_rule, tuple_rule, url_rule};
+use crate::rules::{
+    bytes_rule, class_name, enum_rule, gather_rule, int_rule, str_rule, tuple_rule, url_rule,
+};
 use crate::table::node_types;
 use pv_node::{Body, Node, any_node};
 use pv_rules::{Collection, FieldsKind, ScalarRule, Settings};

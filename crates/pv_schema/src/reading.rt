@@ -1,5 +1,7 @@
+ghost use Rattle.std.specs.Prelude.{IfOk};
 ghost use Rattle.pv_schema.specs.Reading as spec;
 ghost use Rattle.pv_schema.specs.Reading.{Reads, schema_of};
+ghost use Rattle.pv_schema.specs.Allowed.{AreAllowed};
 
 use crate::check_fault::CheckFault;
 use crate::checking::check;
@@ -39,6 +41,7 @@ fn counted(alloc: Global, root: Node) -> Result<Schema, SchemaFault>
 #[tactic(auto, unfolding(crate::specs::Reading::schema_of))]
 pub fn read_schema(alloc: Global, t: &Tree) -> Result<Schema, SchemaFault>
     ensures reads { Reads result (schema_of t.now) }
+    ensures allowed { IfOk result (λ s. AreAllowed s) }
 {
     match check(alloc, Kind::Schema, t) {
         Ok(()) => {
