@@ -37,7 +37,11 @@ use Rattle.pv_schema.specs.Find.{find}
 use Rattle.pv_schema.specs.Keys.{text, itself, tree_at}
 use Rattle.pv_schema.specs.Table.{ObjectRow, TypeRow, keys, kind_under, node_types, field_types, config, config_test, enum_test, tuple_test}
 use Rattle.pv_schema.specs.Checking.{is_absent, misfit, misfits, fits, is_below, are_of, all_are_of, items_size, size_of}
-use Rattle.pv_schema.specs.Making.{made, nodes_in, or_empty, read, body_in, part_at, node_made, fields_body, fields_rule, field_schemas, field_in, settings, titled, flag_or, gather_rule, tuple_rule, enum_rule}
+use Rattle.pv_schema.specs.Making.{made, nodes_in, body_in, part_at, node_made, fields_body, field_in}
+use Rattle.pv_schema.specs.Written.{or_empty, read, flag_or}
+use Rattle.pv_schema.specs.Fields.{fields_rule, field_schemas}
+use Rattle.pv_schema.specs.Configs.{settings, titled}
+use Rattle.pv_schema.specs.NodeRules.{gather_rule, tuple_rule, enum_rule}
 use Rattle.pv_schema.specs.Allowed.{HasItems, IsAllowed, IsAllowedBody, IsAllowedRule, IsSequence, IsEnum, AreBounds, HasNoPositions, AreSettings}
 use Rattle.pv_schema.specs.declared.kind.Kind.TheVariants as kind
 use Rattle.pv_schema.specs.declared.key.Key.{Key}

@@ -11,7 +11,7 @@ use Rattle.pv_rules.specs.declared.Settings.{Settings}
 use Rattle.pv_node.specs.declared.Node.{Node}
 use Rattle.pv_node.specs.Places.{Slot, field_slots, extras_slots}
 use Rattle.pv_node.specs.Preorder.{preorder, optional, written}
-use Rattle.pv_schema.specs.Making.{Field, is_required, field_rules, fields_rule, field_schemas}
+use Rattle.pv_schema.specs.Fields.{Field, is_required, field_rules, fields_rule, field_schemas}
 use Rattle.pv_schema.specs.Allowed.{IsAllowed, IsFieldOf, AreFields, AreSettings}
 use Rattle.pv_schema.proofs.AllowedKeys.{IsAllowedField, AreAllowedFields, each_append}
 

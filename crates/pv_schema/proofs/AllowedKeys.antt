@@ -18,7 +18,10 @@ use Rattle.pv_schema.specs.Find.{find}
 use Rattle.pv_schema.specs.Keys.{itself}
 use Rattle.pv_schema.specs.Table.{ObjectRow, kind_under}
 use Rattle.pv_schema.specs.Checking.{faults, faults_under, member_faults, all_under, is_absent, missing}
-use Rattle.pv_schema.specs.Making.{Field, MadeAs, made, or_empty, read, titled}
+use Rattle.pv_schema.specs.Fields.{Field}
+use Rattle.pv_schema.specs.Making.{MadeAs, made}
+use Rattle.pv_schema.specs.Written.{or_empty, read}
+use Rattle.pv_schema.specs.Configs.{titled}
 use Rattle.pv_schema.specs.Allowed.{IsAllowed, IsAlias, AreSettings}
 use Rattle.pv_schema.specs.declared.fault.Refusal.{Refusal}
 use Rattle.pv_schema.specs.declared.key.Key.{Key}

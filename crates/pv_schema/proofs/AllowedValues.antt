@@ -15,7 +15,7 @@ use Rattle.pv_schema_values.specs.Values.{step_of, path_by, path_in, path_of, al
 use Rattle.std.specs.Option.{option_or}
 use Rattle.pv_tree.specs.declared.Step.{Step}
 use Rattle.pv_tree.specs.declared.Step.TheVariants.{Name, Index}
-use Rattle.pv_schema.specs.Making.{read, or_empty}
+use Rattle.pv_schema.specs.Written.{read, or_empty}
 use Rattle.pv_schema.specs.Allowed.{IsCount, HasItems, IsPositive, IsVersion, IsIntOrText, IsStep, IsPath, IsAlias}
 
 module _ {X : Type 0} (P : X → Type 0) where

@@ -17,7 +17,10 @@ use Rattle.pv_schema_values.specs.Values.{text_of}
 use Rattle.pv_schema.specs.Keys.{text, itself, tree_at}
 use Rattle.pv_schema.specs.Table.{ObjectRow, TypeRow, row_named, keys, kind_under, node_types, field_types, config}
 use Rattle.pv_schema.specs.Checking.{faults, member_faults, object_faults, row_faults, typed_faults, untyped_faults, each_faults, named_faults, item_faults, list_faults, level_faults, rest_faults, missing, misfits, row_of, row_of_name, row_found, where_built}
-use Rattle.pv_schema.specs.Making.{made, level_made, node_by_row, Field, node_in, nodes_in, fields_in, field_in, settings, or_empty, part_at}
+use Rattle.pv_schema.specs.Making.{made, level_made, node_by_row, node_in, nodes_in, fields_in, field_in, part_at}
+use Rattle.pv_schema.specs.Fields.{Field}
+use Rattle.pv_schema.specs.Configs.{settings}
+use Rattle.pv_schema.specs.Written.{or_empty}
 use Rattle.pv_schema.specs.Answers.{first}
 use Rattle.pv_schema.specs.Reading.{schema_of, schema_by, counted, Reads}
 use Rattle.pv_schema.specs.Allowed.{IsAllowed, AreAllowed, AreSettings}

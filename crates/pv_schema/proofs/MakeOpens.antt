@@ -17,7 +17,10 @@ use Rattle.pv_schema.specs.Find.{find}
 use Rattle.pv_schema.specs.Keys.{text, itself, tree_at}
 use Rattle.pv_schema.specs.Table.{node_types}
 use Rattle.pv_schema.specs.Checking.{row_of}
-use Rattle.pv_schema.specs.Making.{MadeAs, Made, all_made, make_step, made, level_made, node_by_row, node_in, nodes_in, fields_in, field_in, field, field_schemas, settings, part_at, or_empty}
+use Rattle.pv_schema.specs.Making.{MadeAs, Made, all_made, make_step, made, level_made, node_by_row, node_in, nodes_in, fields_in, field_in, field, part_at}
+use Rattle.pv_schema.specs.Fields.{field_schemas}
+use Rattle.pv_schema.specs.Configs.{settings}
+use Rattle.pv_schema.specs.Written.{or_empty}
 use Rattle.pv_schema.specs.declared.key.Key.{Key}
 use Rattle.pv_schema.specs.declared.key.Key.TheVariants as key
 use Rattle.pv_schema.specs.declared.kind.Kind.{Kind}

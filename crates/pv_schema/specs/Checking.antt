@@ -17,8 +17,8 @@ use Rattle.pv_rules.specs.declared.Literal.{Literal}
 use Rattle.pv_rules.specs.declared.Literal.TheVariants as literal
 use Rattle.pv_rules.specs.declared.SubType.{SubType}
 use Rattle.pv_rules.specs.declared.SubType.TheVariants as sub_type
-use Rattle.pv_schema_values.specs.Values.{is_value, is_false, text_of, flag_of, count_of, members_of}
-use Rattle.pv_schema_values.specs.Values.{sub_type_of}
+use Rattle.pv_schema_values.specs.Values.{is_value, is_false, text_of, flag_of, count_of}
+use Rattle.pv_schema_values.specs.Values.{members_of, sub_type_of}
 use Rattle.pv_schema_values.specs.declared.ValueKind.{ValueKind}
 use Rattle.pv_schema.specs.Keys.{text, tree_at}
 use Rattle.pv_schema.specs.Table.{ObjectRow, TypeRow, row_named, keys, kind_under, node_types}

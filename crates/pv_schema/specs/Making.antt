@@ -1,42 +1,33 @@
 -- What a tree is made to be as each kind, where nothing is wrong with it. What is absent is left
 -- out, and what is wrong is taken as absent.
-use Rattle.std.specs.Prelude.{ℕ, Bool, true, false, ◌||◌, List, [], map, length}
-use Rattle.std.specs.Prelude.{Option, None, Some, unwrap_or, Result, Ok, Err}
-use Rattle.std.specs.Option.{option_map, option_or}
+use Rattle.std.specs.Prelude.{ℕ, Bool, false, List, map, length}
+use Rattle.std.specs.Prelude.{Option, None, unwrap_or, Result, Ok, Err}
+use Rattle.std.specs.Option.{option_map}
 use Rattle.pv_tree.specs.Parts.{items_at, members_at}
 use Rattle.pv_tree.specs.declared.Tree.{Tree, rec-Tree}
 use Rattle.pv_tree.specs.declared.Tree.TheOpen.{Tree-F}
-use Rattle.pv_tree.specs.declared.Tree.TheVariants as tree
-use Rattle.pv_rules.specs.declared.AliasRule.{AliasRule}
-use Rattle.pv_rules.specs.declared.FieldRule.{FieldRule}
-use Rattle.pv_rules.specs.declared.FieldsRule.{FieldsRule}
+use Rattle.pv_rules.specs.declared.Collection.TheVariants as collection
 use Rattle.pv_rules.specs.declared.FieldsKind.{FieldsKind}
 use Rattle.pv_rules.specs.declared.FieldsKind.TheVariants as fields
 use Rattle.pv_rules.specs.declared.OnError.TheVariants as on_error
-use Rattle.pv_rules.specs.declared.ExtraBehavior.{ExtraBehavior}
-use Rattle.pv_rules.specs.declared.ExtraBehavior.TheVariants as behavior
-use Rattle.pv_rules.specs.declared.Settings.{Settings}
-use Rattle.pv_rules.specs.declared.IntRule.{IntRule}
-use Rattle.pv_rules.specs.declared.StrRule.{StrRule}
-use Rattle.pv_rules.specs.declared.BytesRule.{BytesRule}
-use Rattle.pv_rules.specs.declared.UrlRule.{UrlRule}
-use Rattle.pv_rules.specs.declared.EnumRule.{EnumRule}
-use Rattle.pv_rules.specs.declared.GatherRule.{GatherRule}
-use Rattle.pv_rules.specs.declared.Collection.{Collection}
-use Rattle.pv_rules.specs.declared.Collection.TheVariants as collection
 use Rattle.pv_rules.specs.declared.ScalarRule.TheVariants as rule
-use Rattle.pv_schema_values.specs.Values.{text_of, flag_of, int_of, count_of, positive_of}
-use Rattle.pv_schema_values.specs.Values.{version_of, texts_of, literals_of, members_of}
-use Rattle.pv_schema_values.specs.Values.{sub_type_of, alias_of, extra_behavior_of, on_error_of, is_false}
-use Rattle.pv_schema.specs.Find.{find}
-use Rattle.pv_schema.specs.Keys.{text, tree_at}
-use Rattle.pv_schema.specs.Table.{TypeRow, node_types}
-use Rattle.pv_schema.specs.Checking.{row_of}
-use Rattle.pv_schema.specs.declared.fault.Code.{Code}
+use Rattle.pv_rules.specs.declared.Settings.{Settings}
 use Rattle.pv_node.specs.Absent.{any, or_any}
 use Rattle.pv_node.specs.declared.Node.{Node, roll-Node}
 use Rattle.pv_node.specs.declared.Body.{Body}
 use Rattle.pv_node.specs.declared.Body.TheVariants as body
+use Rattle.pv_schema_values.specs.Values.{text_of, flag_of, version_of, literals_of}
+use Rattle.pv_schema_values.specs.Values.{extra_behavior_of, on_error_of}
+use Rattle.pv_schema.specs.Checking.{row_of}
+use Rattle.pv_schema.specs.Configs.{settings, titled}
+use Rattle.pv_schema.specs.Fields.{Field, written_field, fields_rule, field_schemas}
+use Rattle.pv_schema.specs.Find.{find}
+use Rattle.pv_schema.specs.Keys.{text, tree_at}
+use Rattle.pv_schema.specs.NodeRules.{int_rule, str_rule, bytes_rule, url_rule, enum_rule}
+use Rattle.pv_schema.specs.NodeRules.{gather_rule, tuple_rule}
+use Rattle.pv_schema.specs.Table.{TypeRow, node_types}
+use Rattle.pv_schema.specs.Written.{read, or_empty, or_null, flag_or}
+use Rattle.pv_schema.specs.declared.fault.Code.{Code}
 use Rattle.pv_schema.specs.declared.key.Key.{Key}
 use Rattle.pv_schema.specs.declared.key.Key.TheVariants as key
 use Rattle.pv_schema.specs.declared.kind.Kind.{Kind}
@@ -45,32 +36,6 @@ use Rattle.pv_schema.specs.declared.node_type.NodeType.{NodeType}
 use Rattle.pv_schema.specs.declared.node_type.NodeType.TheVariants as node
 use Rattle.pv_schema.specs.declared.row.Makes.{Makes}
 use Rattle.pv_schema.specs.declared.row.Makes.TheVariants as makes
-
--- what a tree stands for, where there is one
-abbrev pub read : {Y : Type 0} → (Tree → Option Y) → Option Tree → Option Y
-read f None = None
-read f (Some t) = f t
-
--- a list, or the empty one where there is none
-abbrev pub or_empty : {Y : Type 0} → Option (List Y) → List Y
-or_empty None = []
-or_empty (Some ys) = ys
-
--- a flag, or another one where there is none
-abbrev pub flag_or : Bool → Option Tree → Bool
-flag_or b t = unwrap_or (read flag_of t) b
-
--- what is written of a field of a model or of a typed dict, apart from its schema
-pub record FieldKeys : Type 0 where
-  pub validation_alias : Option AliasRule
-  pub serialization_alias : Option (List ℕ)
-  pub serialization_exclude : Bool
-  pub required : Option Bool
-
--- a field with its schema
-pub record Field : Type 0 where
-  pub keys : FieldKeys
-  pub schema : Node
 
 -- what a tree is made to be as each kind; values are read where they stand
 abbrev pub MadeAs : Kind → Type 0
@@ -81,143 +46,6 @@ MadeAs (kind.Fields k) = List (List ℕ × Field)
 MadeAs (kind.Field k) = Field
 MadeAs kind.Config = Settings
 MadeAs kind.NotBuilt = Unit {0}
-
--- a tree, or null where there is none
-abbrev pub or_null : Option Tree → Tree
-or_null None = tree.Null
-or_null (Some t) = t
-
--- by the trees under the keys
-module _ (at : Key → Option Tree) where
-  -- of an int
-  abbrev pub int_rule : IntRule
-  int_rule = record {
-    multiple_of = read positive_of (at key.MultipleOf);
-    le = read int_of (at key.Le);
-    lt = read int_of (at key.Lt);
-    ge = read int_of (at key.Ge);
-    gt = read int_of (at key.Gt);
-  }
-
-  -- of a text
-  abbrev pub str_rule : StrRule
-  str_rule = record {
-    min_length = read count_of (at key.MinLength);
-    max_length = read count_of (at key.MaxLength);
-    pattern = read text_of (at key.Pattern);
-    strip_whitespace = read flag_of (at key.StripWhitespace);
-  }
-
-  -- of bytes
-  abbrev pub bytes_rule : BytesRule
-  bytes_rule = record {
-    min_length = read count_of (at key.MinLength);
-    max_length = read count_of (at key.MaxLength);
-  }
-
-  -- of a URL
-  abbrev pub url_rule : UrlRule
-  url_rule = record {
-    max_length = read count_of (at key.MaxLength);
-    allowed_schemes = read texts_of (at key.AllowedSchemes);
-  }
-
-  -- of an enum
-  abbrev pub enum_rule : EnumRule
-  enum_rule = record {
-    cls = or_empty (read text_of (at key.Cls));
-    members = or_empty (read members_of (at key.Members));
-    sub_type = read sub_type_of (at key.SubType);
-  }
-
-  -- of a list, a set, a frozenset or a dict
-  abbrev pub gather_rule : Collection → GatherRule
-  gather_rule kind = record {
-    kind = kind;
-    positions = 0;
-    variadic_item_index = None;
-    min_length = read count_of (at key.MinLength);
-    max_length = read count_of (at key.MaxLength);
-  }
-
-  -- of a tuple with so many positions
-  abbrev pub tuple_rule : ℕ → GatherRule
-  tuple_rule positions = record {
-    kind = collection.Tuple;
-    positions = positions;
-    variadic_item_index = read count_of (at key.VariadicItemIndex);
-    min_length = read count_of (at key.MinLength);
-    max_length = read count_of (at key.MaxLength);
-  }
-
-  -- whether a field is read by its name where this is not written: where the names or no aliases
-  -- are asked for
-  abbrev pub by_name : Bool
-  by_name = flag_or false (at key.PopulateByName) || is_false (read flag_of (at key.ValidateByAlias))
-
-  -- of a config, without a title where none is written
-  abbrev pub settings : Settings
-  settings = record {
-    title = read text_of (at key.Title);
-    strict = flag_or false (at key.Strict);
-    extra_fields_behavior =
-        unwrap_or (read extra_behavior_of (at key.ExtraFieldsBehavior)) behavior.Ignore;
-    populate_by_name = flag_or false (at key.PopulateByName);
-    validate_by_alias = flag_or true (at key.ValidateByAlias);
-    validate_by_name = flag_or by_name (at key.ValidateByName);
-    serialize_by_alias = flag_or false (at key.SerializeByAlias);
-    loc_by_alias = flag_or true (at key.LocByAlias);
-    validate_default = flag_or false (at key.ValidateDefault);
-    str_strip_whitespace = flag_or false (at key.StrStripWhitespace);
-    str_min_length = read count_of (at key.StrMinLength);
-    str_max_length = read count_of (at key.StrMaxLength);
-  }
-
-  -- what is written of a field
-  abbrev pub written_field : FieldKeys
-  written_field = record {
-    validation_alias = read alias_of (at key.ValidationAlias);
-    serialization_alias = read text_of (at key.SerializationAlias);
-    serialization_exclude = flag_or false (at key.SerializationExclude);
-    required = read flag_of (at key.Required);
-  }
-
--- settings whose title is the name of a class where none is written
-abbrev pub titled : Option (List ℕ) → Settings → Settings
-titled cls s = record s { title = option_or s.title cls }
-
--- whether a field has to be given: of a model each; of a typed dict by its own word, by that of the
--- typed dict, or else each
-abbrev pub is_required : FieldsKind → Option Bool → Option Bool → Bool
-is_required fields.Model total own = true
-is_required fields.TypedDict total own = unwrap_or own (unwrap_or total true)
-
--- the rule of a field of this name
-abbrev pub field_rule : FieldsKind → Option Bool → List ℕ → FieldKeys → FieldRule
-field_rule k total name f = record {
-  name = name;
-  validation_alias = f.validation_alias;
-  serialization_alias = f.serialization_alias;
-  serialization_exclude = f.serialization_exclude;
-  required = is_required k total f.required;
-}
-
--- the rules of some fields
-abbrev pub field_rules : FieldsKind → Option Bool → List (List ℕ × Field) → List FieldRule
-field_rules k total fs = map (λ f. field_rule k total f.0 (f.1).keys) fs
-
--- the rule of a list of fields
-abbrev pub fields_rule : FieldsKind → Option Bool → Option ExtraBehavior → List (List ℕ × Field)
-    → FieldsRule
-fields_rule k total behavior fs = record {
-  kind = k;
-  fields = field_rules k total fs;
-  extra_behavior = behavior;
-}
-
--- the schemas of a list of fields
-abbrev pub field_schemas : List (List ℕ × Field) → List Node
-field_schemas fs = map (λ f. (f.1).schema) fs
 
 -- a node, by the trees under the keys and by what they are made to be as each kind
 module _ (at : Key → Option Tree) (part : (k : Kind) → Key → Option (MadeAs k)) where
@@ -271,7 +99,12 @@ module _ (at : Key → Option Tree) (part : (k : Kind) → Key → Option (MadeA
       (unwrap_or (read on_error_of (at key.OnError)) on_error.Raise)
       (or_any (part kind.Schema key.Schema))
   body_of node.ModelFields =
-      fields_body fields.Model None (or_empty (part (kind.Fields fields.Model) key.Fields)) None None
+      fields_body
+      fields.Model
+      None
+      (or_empty (part (kind.Fields fields.Model) key.Fields))
+      None
+      None
   body_of node.TypedDict =
       fields_body
       fields.TypedDict

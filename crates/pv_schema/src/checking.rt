@@ -132,7 +132,7 @@ fn check_named(alloc: Global, kind: Kind, name: &Text, value: &Tree) -> Result<(
 {
     match check(alloc, kind, value) {
         Ok(()) => Ok(()),
-        Err(fault) => Err(under_key(alloc, fault, name.as_str())),
+        Err(inside) => Err(under_key(alloc, inside, name.as_str())),
     }
 }
 

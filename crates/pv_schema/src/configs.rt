@@ -4,8 +4,9 @@ ghost use Rattle.std.specs.Prelude.{◌≡◌, IfOk};
 ghost use Rattle.std.specs.Option.{option_map, option_or};
 ghost use Rattle.pv_schema_values.specs.Values as value;
 ghost use Rattle.pv_schema.specs.Keys.{itself, tree_at};
-ghost use Rattle.pv_schema.specs.Making as spec;
-ghost use Rattle.pv_schema.specs.Making.{made, read};
+ghost use Rattle.pv_schema.specs.Configs as spec;
+ghost use Rattle.pv_schema.specs.Making.{made, part_at};
+ghost use Rattle.pv_schema.specs.Written.{read};
 ghost use Rattle.pv_schema.specs.declared.kind.Kind.TheVariants as kinds;
 
 use crate::finding::find;
@@ -73,7 +74,7 @@ fn settings_of(alloc: Global, tree: &Tree, cls: Option<Text>) -> Result<Settings
 pub(crate) fn config_at(alloc: Global, members: &[(Text, Tree)]) -> Result<Option<Settings>, Memory>
     ensures { IfOk result (λ config. config
         ≡ option_map (spec.titled (read value.text_of (tree_at itself members.now Key.Cls)))
-        (spec.part_at itself made members.now kinds.Config Key.Config)) }
+        (part_at itself made members.now kinds.Config Key.Config)) }
 {
     match find(members, Key::Config) {
         Some(tree) => {

@@ -10,7 +10,8 @@ pub enum ShapeCode {
     BadValue,
 }
 
-/// Why a schema is refused at a place: its shape is wrong there, or what stands there is not built yet.
+/// Why a schema is refused at a place: its shape is wrong there, or what stands there is not built
+/// yet.
 #[derive(Clone, Copy, Debug, PartialEq, Eq)]
 pub(crate) enum Code {
     Shape(ShapeCode),

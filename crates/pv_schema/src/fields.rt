@@ -3,8 +3,9 @@
 ghost use Rattle.std.specs.Prelude.{◌≡◌, IfOk};
 ghost use Rattle.pv_schema_values.specs.Values as value;
 ghost use Rattle.pv_schema.specs.Keys.{itself, tree_at};
-ghost use Rattle.pv_schema.specs.Making as spec;
-ghost use Rattle.pv_schema.specs.Making.{made, or_empty, read};
+ghost use Rattle.pv_schema.specs.Fields as spec;
+ghost use Rattle.pv_schema.specs.Making.{fields_in, made, part_at};
+ghost use Rattle.pv_schema.specs.Written.{or_empty, read};
 ghost use Rattle.pv_schema.specs.declared.kind.Kind.TheVariants as kinds;
 
 use crate::finding::find;
@@ -72,7 +73,7 @@ fn field_rules(
     fields: &[(Text, Tree)],
 ) -> Result<Items<FieldRule>, Memory>
     ensures { IfOk result (λ rules. rules
-        ≡ spec.field_rules kind total (spec.fields_in itself made kind fields.now)) }
+        ≡ spec.field_rules kind total (fields_in itself made kind fields.now)) }
 {
     let mut rules = Vec::with_capacity(alloc, fields.len())?;
     for (name, field) in fields {
@@ -107,7 +108,7 @@ fn rules_under(
     members: &[(Text, Tree)],
 ) -> Result<Items<FieldRule>, Memory>
     ensures { IfOk result (λ rules. rules ≡ spec.field_rules kind total
-        (or_empty (spec.part_at itself made members.now (kinds.Fields kind) Key.Fields))) }
+        (or_empty (part_at itself made members.now (kinds.Fields kind) Key.Fields))) }
 {
     match find(members, Key::Fields) {
         Some(tree) => rules_of(alloc, kind, total, tree),
@@ -124,7 +125,7 @@ pub(crate) fn fields_rule(
 ) -> Result<FieldsRule, Memory>
     ensures { IfOk result (λ rule. rule ≡ spec.fields_rule kind total
         (read value.extra_behavior_of (tree_at itself members.now Key.ExtraBehavior))
-        (or_empty (spec.part_at itself made members.now (kinds.Fields kind) Key.Fields))) }
+        (or_empty (part_at itself made members.now (kinds.Fields kind) Key.Fields))) }
 {
     Ok(FieldsRule {
         kind,

@@ -3,8 +3,8 @@
 ghost use Rattle.std.specs.Prelude.{◌≡◌, IfOk, unwrap_or};
 ghost use Rattle.pv_schema_values.specs.Values as value;
 ghost use Rattle.pv_schema.specs.Keys.{itself, tree_at};
-ghost use Rattle.pv_schema.specs.Making as spec;
-ghost use Rattle.pv_schema.specs.Making.{or_empty, read};
+ghost use Rattle.pv_schema.specs.Written as spec;
+ghost use Rattle.pv_schema.specs.Written.{or_empty, read};
 
 use crate::finding::find;
 use crate::key::Key;

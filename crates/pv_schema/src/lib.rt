@@ -4,8 +4,10 @@
 //! and then the schema is made of it.
 #![tactic(auto)]
 
+mod bodies;
 mod check_fault;
 mod checking;
+mod children;
 mod configs;
 mod fault;
 mod fields;
