@@ -8,3 +8,4 @@ pub mod AllowedFields
 pub mod AllowedBodies
 pub mod Allowing
 pub mod Naming
+pub mod Ineffective

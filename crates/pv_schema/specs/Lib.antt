@@ -11,3 +11,4 @@ pub mod Making
 pub mod Answers
 pub mod Reading
 pub mod Allowed
+pub mod Effects

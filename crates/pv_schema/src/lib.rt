@@ -29,7 +29,10 @@ mod table;
 pub use fault::{SchemaFault, ShapeCode};
 pub use key::Key;
 pub use kind::Kind;
-pub use laws::{what_is_read_has_named_fields, what_is_read_is_allowed};
+pub use laws::{
+    keys_without_effect_change_no_field, keys_without_effect_change_no_node,
+    what_is_read_has_named_fields, what_is_read_is_allowed,
+};
 pub use node_type::NodeType;
 pub use reading::read_schema;
 pub use row::{Fit, KeyRow, Makes, ObjectRow, Test, TypeRow};
