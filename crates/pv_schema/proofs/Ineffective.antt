@@ -1,5 +1,5 @@
 -- Keys without an effect change nothing: what is made of an object asks for the others alone.
-use Rattle.std.proofs.Common.{◌≡◌, ℕ, List, [], ◌∷◌, refl}
+use Rattle.std.proofs.Common.{ℕ, List, [], ◌∷◌, refl}
 use Rattle.std.specs.Prelude.{codes}
 use Rattle.std.specs.List.{AllByRecursion}
 use Rattle.pv_rules.specs.declared.FieldsKind.{FieldsKind}

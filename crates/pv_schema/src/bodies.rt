@@ -13,11 +13,11 @@ use crate::children::{make_child, make_children, make_fields_under, make_inner};
 use crate::configs::config_at;
 use crate::fields::fields_rule;
 use crate::key::Key;
-use crate::keys::{default_at, flag_at, flag_or, literals_at, on_error_at, text_at, version_at};
-use crate::node_type::NodeType;
-use crate::rules::{
+use crate::node_rules::{
     bytes_rule, class_name, enum_rule, gather_rule, int_rule, str_rule, tuple_rule, url_rule,
 };
+use crate::node_type::NodeType;
+use crate::written::{default_at, flag_at, flag_or, literals_at, on_error_at, text_at, version_at};
 use pv_node::Body;
 use pv_rules::{Collection, FieldsKind, ScalarRule, Settings};
 use pv_text::{Memory, Text};

@@ -8,17 +8,18 @@ ghost use Rattle.pv_tree.specs.declared.Tree.{out-Tree};
 ghost use Rattle.pv_schema.specs.Answers.{Answers};
 ghost use Rattle.pv_schema.specs.Checking as spec;
 ghost use Rattle.pv_schema.specs.Checking.{faults};
-ghost use Rattle.pv_schema.specs.Keys.{itself};
+ghost use Rattle.pv_schema.specs.Keys.{itself, tree_at};
 ghost use Rattle.pv_schema.specs.Rows.{object_in, types_in};
 
 use crate::check_fault::CheckFault;
 use crate::fault::{Code, ShapeCode};
-use crate::fitting::check_rest;
+use crate::fits::check_tests;
 use crate::key::Key;
 use crate::kind::Kind;
-use crate::listing::{kind_under, row_of};
-use crate::refusing::{refused, refused_at, under_item, under_key};
+use crate::missing::check_missing;
+use crate::refusals::{refused, refused_at, under_item, under_key};
 use crate::row::{ObjectRow, TypeRow};
+use crate::row_lookup::{kind_under, row_of};
 use crate::table::{config, field_types, node_types};
 use pv_schema_values::{ValueKind, is_value};
 use pv_text::Text;
@@ -34,6 +35,17 @@ fn check_value(alloc: Global, kind: ValueKind, tree: &Tree) -> Result<(), CheckF
     } else {
         Err(refused(alloc, Code::Shape(ShapeCode::BadValue)))
     }
+}
+
+/// What is left to say of an object whose keys are right.
+#[tactic(auto, using(crate::proofs::Rest::rest_splits))]
+fn check_rest(alloc: Global, object: ObjectRow, members: &[(Text, Tree)]) -> Result<(), CheckFault>
+    ensures { Answers result
+        (spec.rest_faults (tree_at itself members.now) (object_in object)) }
+{
+    check_missing(alloc, object.shared, members)?;
+    check_missing(alloc, object.own, members)?;
+    check_tests(alloc, object.tests, members)
 }
 
 /// What stands under a key, where this may stand there.

@@ -10,7 +10,7 @@ ghost use Rattle.pv_schema.specs.declared.kind.Kind.TheVariants as kinds;
 
 use crate::finding::find;
 use crate::key::Key;
-use crate::keys::{alias_at, extra_behavior_at, flag_at, flag_or, text_at};
+use crate::written::{alias_at, extra_behavior_at, flag_at, flag_or, text_at};
 use pv_rules::{FieldRule, FieldsKind, FieldsRule};
 use pv_text::{Memory, Text};
 use pv_tree::Tree;

@@ -8,11 +8,11 @@ ghost use Rattle.pv_schema.specs.declared.kind.Kind.TheVariants as kinds;
 
 use crate::bodies::make_body;
 use crate::key::Key;
-use crate::keys::flag_at;
-use crate::listing::row_of;
 use crate::node_type::NodeType;
 use crate::row::Makes;
+use crate::row_lookup::row_of;
 use crate::table::node_types;
+use crate::written::flag_at;
 use pv_node::{Node, any_node};
 use pv_text::Memory;
 use pv_tree::{Members, Tree};

@@ -7,7 +7,7 @@ ghost use Rattle.pv_schema.specs.NodeRules as spec;
 ghost use Rattle.pv_schema.specs.Written.{or_empty, read};
 
 use crate::key::Key;
-use crate::keys::{
+use crate::written::{
     count_at, enum_members_at, flag_at, int_at, positive_at, sub_type_at, text_at, texts_at,
 };
 use pv_rules::{BytesRule, Collection, EnumRule, GatherRule, IntRule, StrRule, UrlRule};

@@ -1,40 +1,21 @@
-//! What has to be there, and what has to fit together.
+//! What has to fit together.
 
 ghost use Rattle.std.specs.Prelude.{◌≡◌, IfOk};
 ghost use Rattle.pv_schema.specs.Answers.{Answers};
 ghost use Rattle.pv_schema.specs.Checking as spec;
 ghost use Rattle.pv_schema.specs.Keys.{itself, tree_at};
-ghost use Rattle.pv_schema.specs.Rows.{object_in};
 ghost use Rattle.pv_schema.specs.declared.row.Fit.TheVariants as fit;
 
 use crate::check_fault::CheckFault;
 use crate::fault::{Code, ShapeCode};
 use crate::finding::find;
-use crate::refusing::refused_at;
-use crate::row::{Fit, KeyRow, ObjectRow, Test};
+use crate::refusals::refused_at;
+use crate::row::{Fit, Test};
 use pv_rules::{EnumMember, Literal, SubType};
 use pv_schema_values::{count_of, flag_of, members_of, sub_type_of};
 use pv_text::{Memory, Text};
 use pv_tree::Tree;
 use std::alloc::Global;
-
-fn is_absent(row: &KeyRow, members: &[(Text, Tree)]) -> bool
-    ensures { result ≡ spec.is_absent (tree_at itself members.now) row.now }
-{
-    row.required && find(members, row.key).is_none()
-}
-
-/// The keys that have to be there.
-fn check_missing(alloc: Global, rows: &[KeyRow], members: &[(Text, Tree)]) -> Result<(), CheckFault>
-    ensures { Answers result (spec.missing (tree_at itself members.now) rows.now) }
-{
-    for row in rows {
-        if is_absent(row, members) {
-            return Err(refused_at(alloc, row.key, Code::Shape(ShapeCode::MissingKey)));
-        }
-    }
-    Ok(())
-}
 
 fn size_of(tree: &Tree) -> usize
     ensures { result ≡ spec.items_size tree.now }
@@ -135,26 +116,15 @@ fn check_test(alloc: Global, test: &Test, members: &[(Text, Tree)]) -> Result<()
 }
 
 /// What does not fit together.
-fn check_tests(alloc: Global, tests: &[Test], members: &[(Text, Tree)]) -> Result<(), CheckFault>
+pub(crate) fn check_tests(
+    alloc: Global,
+    tests: &[Test],
+    members: &[(Text, Tree)],
+) -> Result<(), CheckFault>
     ensures { Answers result (spec.misfits (tree_at itself members.now) tests.now) }
 {
     for test in tests {
         check_test(alloc, test, members)?;
     }
     Ok(())
-}
-
-/// What is left to say of an object whose keys are right.
-#[tactic(auto, using(crate::proofs::Rest::rest_splits))]
-pub(crate) fn check_rest(
-    alloc: Global,
-    object: ObjectRow,
-    members: &[(Text, Tree)],
-) -> Result<(), CheckFault>
-    ensures { Answers result
-        (spec.rest_faults (tree_at itself members.now) (object_in object)) }
-{
-    check_missing(alloc, object.shared, members)?;
-    check_missing(alloc, object.own, members)?;
-    check_tests(alloc, object.tests, members)
 }

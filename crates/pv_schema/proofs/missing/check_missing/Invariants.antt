@@ -1,7 +1,7 @@
 use Rattle.std.proofs.Common.{◌≡◌, drop}
 use Rattle.pv_schema.specs.Checking as spec
 use Rattle.pv_schema.specs.Keys.{itself, tree_at}
-use Rattle.pv_schema.proofs.fitting.check_missing.Given as goal
+use Rattle.pv_schema.proofs.missing.check_missing.Given as goal
 
 abbrev pub invariant-loop-row : goal.invariant-loop-row
 invariant-loop-row l =

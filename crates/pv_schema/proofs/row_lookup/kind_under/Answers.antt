@@ -1,7 +1,7 @@
 use Rattle.pv_schema.specs.Rows.{object_in}
 use Rattle.pv_schema.proofs.TableLemmas.{kind_found, kind_not_found}
 use Rattle.std.proofs.Common.{◌∙◌}
-use Rattle.pv_schema.proofs.listing.kind_under.Goals as goal
+use Rattle.pv_schema.proofs.row_lookup.kind_under.Goals as goal
 
 pub returns-in-Some : goal.returns-in-Some
 returns-in-Some c = kind_found (object_in c.args.object) _ _ (c.in-Some.ensures)
