@@ -1,41 +1,59 @@
 -- What a node asks for is allowed, by its type, where nothing is wrong with the node.
-use Rattle.std.proofs.Common.{◌≡◌, ℕ, ◌<◌, true, false, List, [], ◌++◌, length, codes, Option, None, Some, is_some, option_map, flat_map, refl, ap, sym, ◌∙◌, subst, ltb-true, IsTrue}
+use Rattle.std.proofs.Common.{◌≡◌, ℕ, ◌<◌, true, false, Bool, List, [], ◌∷◌, ◌++◌, length, Option, None, Some, is_some, option_map, flat_map, refl, ap, sym, ◌∙◌, subst, ltb-true, IsTrue}
 use Rattle.std.proofs.lemmas.Bool.{false≢true}
 use Rattle.std.proofs.lemmas.List.{length-map}
 use Rattle.std.proofs.lemmas.Grind.{flat_map-append}
 use Rattle.std.specs.List.{AllByRecursion}
 use Rattle.std.specs.Option.{IfSome}
 use Rattle.pv_tree.specs.declared.Tree.{Tree, out-Tree}
+use Rattle.pv_rules.specs.declared.FieldsKind.{FieldsKind}
+use Rattle.pv_rules.specs.declared.FieldsKind.TheVariants as fields
+use Rattle.pv_rules.specs.declared.OnError.{OnError}
+use Rattle.pv_rules.specs.declared.Settings.{Settings}
+use Rattle.std.specs.Prelude.{not, ◌&&◌, ◌||◌, unwrap_or}
+use Rattle.pv_schema.proofs.AllowedFields.{are_fields, nodes_are}
 use Rattle.pv_rules.specs.declared.SubType.{SubType}
 use Rattle.pv_rules.specs.declared.EnumMember.{EnumMember}
 use Rattle.pv_rules.specs.declared.Collection.{Collection}
 use Rattle.pv_rules.specs.declared.Collection.TheVariants as collection
 use Rattle.pv_rules.specs.declared.ScalarRule.{ScalarRule}
 use Rattle.pv_rules.specs.declared.ScalarRule.TheVariants as rule
-use Rattle.pv_node.specs.declared.Node.{Node}
+use Rattle.pv_node.specs.declared.Node.{Node, roll-Node, out-roll-Node}
 use Rattle.pv_node.specs.declared.Body.{Body, out-Body, roll-Body, out-roll-Body}
 use Rattle.pv_node.specs.declared.Body.TheVariants as body
-use Rattle.pv_node.specs.declared.Body.TheVariants.{rolls-Scalar, rolls-Sequence, rolls-Tuple, rolls-Dict, rolls-Nullable}
+use Rattle.pv_node.specs.declared.Body.TheVariants.{rolls-Scalar, rolls-Sequence, rolls-Tuple, rolls-Dict, rolls-Nullable, rolls-Fields, rolls-Model, rolls-Default}
 use Rattle.pv_node.specs.declared.Body.TheOpen.{Body-F}
-use Rattle.pv_node.specs.Places.{position_slots, slots}
+use Rattle.pv_node.specs.Places.{slots}
 use Rattle.pv_node.specs.Preorder.{preorder, optional, written}
 use Rattle.pv_node.proofs.Written.{positions_written}
+use Rattle.pv_node.proofs.Preorder.{preorder_opens}
 use Rattle.std.proofs.lemmas.List.{append-nil}
 use Rattle.pv_tree.specs.Parts.{items_at}
 use Rattle.pv_node.specs.Absent.{or_any}
-use Rattle.pv_schema_values.specs.Values.{literals_of, members_of, count_of, sub_type_of}
+use Rattle.pv_schema_values.specs.Values.{is_false, flag_of, text_of, extra_behavior_of, is_value, literals_of, members_of, count_of, sub_type_of}
+use Rattle.pv_schema_values.specs.declared.ValueKind.{ValueKind}
 use Rattle.pv_schema_values.specs.declared.ValueKind.TheVariants as value
 use Rattle.pv_schema.specs.Find.{find}
-use Rattle.pv_schema.specs.Table.{rows, kind_under}
-use Rattle.pv_schema.specs.Checking.{is_absent, misfit, misfits, place_fits, members_fit, is_below, are_of, all_are_of, items_size, size_of, checked}
-use Rattle.pv_schema.specs.Making.{node_of, nodes_of, nodes_in, or_empty, read, body_in, gather_rule, tuple_rule, enum_rule}
-use Rattle.pv_schema.specs.Allowed.{HasItems, IsAllowed, IsAllowedBody, IsAllowedRule, IsSequence, IsEnum, AreBounds, HasNoPositions}
+use Rattle.pv_schema.specs.Keys.{text, itself, tree_at}
+use Rattle.pv_schema.specs.Table.{ObjectRow, TypeRow, keys, kind_under, node_types, field_types, config, config_test, enum_test, tuple_test}
+use Rattle.pv_schema.specs.Checking.{is_absent, misfit, misfits, fits, is_below, are_of, all_are_of, items_size, size_of}
+use Rattle.pv_schema.specs.Making.{made, nodes_in, body_in, part_at, node_made, fields_body, field_in}
+use Rattle.pv_schema.specs.Written.{or_empty, read, flag_or}
+use Rattle.pv_schema.specs.Fields.{fields_rule, field_schemas}
+use Rattle.pv_schema.specs.Configs.{settings, titled}
+use Rattle.pv_schema.specs.NodeRules.{gather_rule, tuple_rule, enum_rule}
+use Rattle.pv_schema.specs.Allowed.{HasItems, IsAllowed, IsAllowedBody, IsAllowedRule, IsSequence, IsEnum, AreBounds, HasNoPositions, AreSettings}
 use Rattle.pv_schema.specs.declared.kind.Kind.TheVariants as kind
+use Rattle.pv_schema.specs.declared.key.Key.{Key}
+use Rattle.pv_schema.specs.declared.key.Key.TheVariants as key
+use Rattle.pv_schema.specs.declared.row.Test.{Test}
+use Rattle.pv_schema.specs.declared.row.Fit.TheVariants as fit
+use Rattle.pv_schema.specs.declared.row.Makes.TheVariants as makes
 use Rattle.pv_schema.specs.declared.node_type.NodeType.{NodeType}
 use Rattle.pv_schema.specs.declared.node_type.NodeType.TheVariants as node
-use Rattle.pv_schema.proofs.MakeOpens.{nodes_opens}
-use Rattle.pv_schema.proofs.AllowedValues.{AreMembers, or_empty_is, counts, versions, positives, texts, literals, members}
-use Rattle.pv_schema.proofs.AllowedKeys.{IsRight, right, each_append, is_there, schema_right, schemas_right, value_right, is_literals, is_members}
+use Rattle.pv_schema.proofs.MakeOpens.{nodes_open}
+use Rattle.pv_schema.proofs.AllowedValues.{AreMembers, or_empty_is, counts, versions, positives, texts, literals, members, aliases}
+use Rattle.pv_schema.proofs.AllowedKeys.{IsRight, IsAllowedField, fields_right, config_right, right, both_empty, each_append, is_there, shown, shown_there, schema_right, schemas_right, value_right, is_literals, is_members}
 
 -- the nodes of some schemas are allowed
 abbrev AreAllAllowed : List Node → Type 0
@@ -56,19 +74,32 @@ below_is : (o : Option ℕ) (n : ℕ) → is_below o n ≡ true → IfSome o (λ
 below_is None n e = tt
 below_is (Some v) n e = ltb-true v n e
 
-list_counted : (o : Option (List Tree)) → length (nodes_in o) ≡ size_of o
+list_counted : (o : Option (List Tree)) → length (nodes_in itself made (or_empty o)) ≡ size_of o
 list_counted None = refl
-list_counted (Some ts) = length-map ts node_of
+list_counted (Some ts) = length-map ts (λ t. made t kind.Schema)
 
-counted : (t : Tree) → length (nodes_of t) ≡ items_size t
-counted t = ap length (nodes_opens t) ∙ list_counted (items_at (out-Tree t))
+counted : (t : Tree) → length (made t kind.Schemas) ≡ items_size t
+counted t = ap length (nodes_open t) ∙ list_counted (items_at (out-Tree t))
 
-place_is : (key : List ℕ) (place items : Option Tree) → is_some items ≡ true → misfit (λ t. t) checked key place_fits place items ≡ []
-    → IfSome (read count_of place) (λ v. v < length (or_empty (option_map nodes_of items)))
-unfolding place_fits
-place_is key None items there e = tt
-place_is key (Some x) None there e = absurd (false≢true there)
-place_is key (Some x) (Some y) there e = below_is (count_of x) (length (nodes_of y)) (ap (is_below (count_of x)) (counted y) ∙ right (place_fits x y) _ e)
+fits_place : (t u : Tree) → fits fit.PlaceInList t u ≡ true → is_below (count_of t) (items_size u) ≡ true
+unfolding fits
+fits_place t u e = e
+
+fits_members : (t u : Tree) → fits fit.OfSubType t u ≡ true → are_of (sub_type_of t) (members_of u) ≡ true
+unfolding fits
+fits_members t u e = e
+
+-- what a test says, where it finds nothing wrong
+tested : (at : Key → Option Tree) (test : Test) → misfits at (test ∷ []) ≡ [] → misfit test (at test.key) (at test.other) ≡ []
+tested at test e = (both_empty _ [] e).0
+
+place_is : (place items : Option Tree) → is_some items ≡ true → misfit tuple_test (option_map itself place) (option_map itself items) ≡ []
+    → IfSome (read count_of (option_map itself place)) (λ v. v < length (or_empty (option_map (λ t. made t kind.Schemas) items)))
+place_is None items there e = tt
+place_is (Some x) None there e = absurd (false≢true there)
+place_is (Some x) (Some y) there e =
+    below_is (count_of x) (length (made y kind.Schemas))
+    (ap (is_below (count_of x)) (counted y) ∙ fits_place x y (right (fits fit.PlaceInList x y) _ e))
 
 -- the members are of the sub type
 all_are : (s : Option SubType) (o : Option (List EnumMember)) → is_some o ≡ true → are_of s o ≡ true → IfSome s (λ x. IsTrue (all_are_of x (or_empty o)))
@@ -76,100 +107,301 @@ all_are None o there e = tt
 all_are (Some s) None there e = absurd (false≢true there)
 all_are (Some s) (Some ms) there e = e
 
-sub_type_is : (key : List ℕ) (s ms : Option Tree) → is_some (read members_of ms) ≡ true → misfit (λ t. t) checked key members_fit s ms ≡ []
+sub_type_is : (s ms : Option Tree) → is_some (read members_of ms) ≡ true → misfit enum_test s ms ≡ []
     → IfSome (read sub_type_of s) (λ x. IsTrue (all_are_of x (or_empty (read members_of ms))))
-unfolding members_fit
-sub_type_is key None ms there e = tt
-sub_type_is key (Some x) None there e = absurd (false≢true there)
-sub_type_is key (Some x) (Some y) there e = all_are (sub_type_of x) (members_of y) there (right (members_fit x y) _ e)
+sub_type_is None ms there e = tt
+sub_type_is (Some x) None there e = absurd (false≢true there)
+sub_type_is (Some x) (Some y) there e =
+    all_are (sub_type_of x) (members_of y) there (fits_members x y (right (fits fit.OfSubType x y) _ e))
 
--- nothing is wrong with the members of a node, and with the schemas under them
-pub record IsClean (n : NodeType) (ms : List (List ℕ × Tree)) : Type 0 where
-  pub under : (key : List ℕ) → IfSome (find key ms) (IsRight (kind_under n key))
-  pub none_absent : AllByRecursion (λ r. is_absent ms r ≡ false) (rows n)
-  pub fits : misfits (λ t. t) checked n ms ≡ []
+-- nothing is wrong with the members of an object, and with what is made of them
+pub record IsClean (o : ObjectRow) (ms : List (List ℕ × Tree)) : Type 0 where
+  pub under : (k : Key) → IfSome (find (text k) ms) (IsRight (kind_under o (text k)))
+  pub none_absent : AllByRecursion (λ r. is_absent (tree_at itself ms) r ≡ false) (keys o)
+  pub fits : misfits (tree_at itself ms) o.tests ≡ []
+
+inner_is : (o : Option Tree) → is_some o ≡ true → IfSome o (IsRight (Some kind.Schema)) → AllByRecursion IsAllowed (preorder (or_any (option_map (λ t. made t kind.Schema) o)))
+inner_is None there h = absurd (false≢true there)
+inner_is (Some t) there h = h.1 kind.Schema h.0
+
+abbrev with_body : Option Bool → Body → Node
+with_body strict b = roll-Node (record { own_ref = None; strict = strict; body = b })
+
+node_is : (strict : Option Bool) (b : Body) → IsWhole (out-Body b) → AllByRecursion IsAllowed (preorder (with_body strict b))
+node_is strict b h =
+    subst (AllByRecursion IsAllowed) (sym (preorder_opens (with_body strict b)))
+    (subst IsWhole (sym (ap (λ n. out-Body n.body) (out-roll-Node (record { own_ref = None; strict = strict; body = b })))) h)
 
 module _ (ms : List (List ℕ × Tree)) where
-  abbrev at : List ℕ → Option Tree
-  at key = find key ms
+  abbrev at : Key → Option Tree
+  at k = tree_at itself ms k
 
-  abbrev node_at : List ℕ → Option Node
-  node_at key = option_map node_of (find key ms)
+  -- what stands under a key
+  abbrev under : Key → Option Tree
+  under k = find (text k) ms
 
-  abbrev nodes_at : List ℕ → List Node
-  nodes_at key = or_empty (option_map nodes_of (find key ms))
+  abbrev node_at : Key → Option Node
+  node_at k = part_at itself made ms kind.Schema k
 
-  bounds : AreBounds (read count_of (at (codes "min_length"))) (read count_of (at (codes "max_length")))
-  bounds = record { least_is_count = counts (at (codes "min_length")); most_is_count = counts (at (codes "max_length")) }
+  abbrev nodes_at : Key → List Node
+  nodes_at k = or_empty (part_at itself made ms kind.Schemas k)
 
-  no_positions : (k : Collection) → HasNoPositions (gather_rule at k)
-  no_positions k = record { positions = refl; variadic = refl; bounds = bounds }
+  bounds : AreBounds (read count_of (at key.MinLength)) (read count_of (at key.MaxLength))
+  bounds = record { least_is_count = counts (at key.MinLength); most_is_count = counts (at key.MaxLength) }
 
-  sequence : (k : Collection) → IsSequence k → IfSome (at (codes "items_schema")) (IsRight (Some kind.Schema))
-      → IsWhole (out-Body (body.Sequence (gather_rule at k) (node_at (codes "items_schema"))))
-  sequence k is h =
-      rolled _ (Body-F.Sequence (gather_rule at k) (node_at (codes "items_schema"))) (rolls-Sequence (gather_rule at k) (node_at (codes "items_schema")))
-      ((is, no_positions k), subst AreAllAllowed (sym (append-nil (optional (node_at (codes "items_schema"))))) (schema_right (at (codes "items_schema")) h))
+  no_positions : (c : Collection) → HasNoPositions (gather_rule at c)
+  no_positions c = record { positions = refl; variadic = refl; bounds = bounds }
 
-  tuple : is_some (at (codes "items_schema")) ≡ true → IfSome (at (codes "items_schema")) (IsRight (Some kind.Schemas))
-      → misfits (λ t. t) checked node.Tuple ms ≡ []
-      → IsWhole (out-Body (body.Tuple (tuple_rule at (length (nodes_at (codes "items_schema")))) (nodes_at (codes "items_schema"))))
+  sequence : (c : Collection) → IsSequence c → IfSome (under key.ItemsSchema) (IsRight (Some kind.Schema))
+      → IsWhole (out-Body (body.Sequence (gather_rule at c) (node_at key.ItemsSchema)))
+  sequence c is h =
+      rolled _ (Body-F.Sequence (gather_rule at c) (node_at key.ItemsSchema)) (rolls-Sequence (gather_rule at c) (node_at key.ItemsSchema))
+      ((is, no_positions c), subst AreAllAllowed (sym (append-nil (optional (node_at key.ItemsSchema)))) (schema_right (under key.ItemsSchema) h))
+
+  tuple : is_some (under key.ItemsSchema) ≡ true → IfSome (under key.ItemsSchema) (IsRight (Some kind.Schemas))
+      → misfits at (tuple_test ∷ []) ≡ []
+      → IsWhole (out-Body (body.Tuple (tuple_rule at (length (nodes_at key.ItemsSchema))) (nodes_at key.ItemsSchema)))
   tuple there h e =
-      let positions = nodes_at (codes "items_schema") in
+      let positions = nodes_at key.ItemsSchema in
       rolled _ (Body-F.Tuple (tuple_rule at (length positions)) positions) (rolls-Tuple (tuple_rule at (length positions)) positions) (
-        record { kind = refl; positions = refl; variadic = place_is _ (at (codes "variadic_item_index")) (at (codes "items_schema")) there e; bounds = bounds },
-        subst AreAllAllowed (sym (positions_written 0 positions)) (schemas_right (at (codes "items_schema")) h),
+        record {
+          kind = refl;
+          positions = refl;
+          variadic = place_is (under key.VariadicItemIndex) (under key.ItemsSchema) there (tested at tuple_test e);
+          bounds = bounds;
+        },
+        subst AreAllAllowed (sym (positions_written 0 positions)) (schemas_right (under key.ItemsSchema) h),
       )
 
-  dict : IfSome (at (codes "keys_schema")) (IsRight (Some kind.Schema)) → IfSome (at (codes "values_schema")) (IsRight (Some kind.Schema))
-      → IsWhole (out-Body (body.Dict (gather_rule at collection.Dict) (node_at (codes "keys_schema")) (node_at (codes "values_schema"))))
+  dict : IfSome (under key.KeysSchema) (IsRight (Some kind.Schema)) → IfSome (under key.ValuesSchema) (IsRight (Some kind.Schema))
+      → IsWhole (out-Body (body.Dict (gather_rule at collection.Dict) (node_at key.KeysSchema) (node_at key.ValuesSchema)))
   dict h k =
-      let keys = node_at (codes "keys_schema") in
-      let values = node_at (codes "values_schema") in
+      let keys = node_at key.KeysSchema in
+      let values = node_at key.ValuesSchema in
       rolled _ (Body-F.Dict (gather_rule at collection.Dict) keys values) (rolls-Dict (gather_rule at collection.Dict) keys values) (
         (refl, no_positions collection.Dict),
         subst (λ ns. AreAllAllowed (optional keys ++ ns)) (sym (append-nil (optional values)))
             (subst (AllByRecursion IsAllowed) (sym (flat_map-append preorder (optional keys) (optional values)))
-            (each_append IsAllowed _ _ (schema_right (at (codes "keys_schema")) h) (schema_right (at (codes "values_schema")) k))),
+            (each_append IsAllowed _ _ (schema_right (under key.KeysSchema) h) (schema_right (under key.ValuesSchema) k))),
       )
 
-  nullable : (o : Option Tree) → is_some o ≡ true → IfSome o (IsRight (Some kind.Schema)) → IsWhole (out-Body (body.Nullable (or_any (option_map node_of o))))
+  nullable : (o : Option Tree) → is_some o ≡ true → IfSome o (IsRight (Some kind.Schema))
+      → IsWhole (out-Body (body.Nullable (or_any (option_map (λ t. made t kind.Schema) o))))
   nullable None there h = absurd (false≢true there)
-  nullable (Some t) there h = rolled _ (Body-F.Nullable (node_of t)) (rolls-Nullable (node_of t)) (tt, schema_right (Some t) h)
+  nullable (Some t) there h = rolled _ (Body-F.Nullable (made t kind.Schema)) (rolls-Nullable (made t kind.Schema)) (tt, schema_right (Some t) h)
 
-  enum : is_some (at (codes "members")) ≡ true → IfSome (at (codes "members")) (IsRight (Some (kind.Value value.Members)))
-      → misfits (λ t. t) checked node.Enum ms ≡ [] → IsEnum (enum_rule at)
+  -- a node that is entered for its inner schema
+  inner_right : is_some (under key.Schema) ≡ true → IfSome (under key.Schema) (IsRight (Some kind.Schema))
+      → AllByRecursion IsAllowed (preorder (or_any (node_at key.Schema)))
+  inner_right there h = inner_is (under key.Schema) there h
+
+  default : (t : Tree) (validate : Option Bool) (e : OnError) → is_some (under key.Schema) ≡ true → IfSome (under key.Schema) (IsRight (Some kind.Schema))
+      → IsWhole (out-Body (body.Default t validate e (or_any (node_at key.Schema))))
+  default t validate e there h =
+      rolled _ (Body-F.Default t validate e (or_any (node_at key.Schema))) (rolls-Default t validate e (or_any (node_at key.Schema)))
+      (tt, each_append IsAllowed _ [] (inner_right there h) tt)
+
+  abbrev configured : Option Settings
+  configured = option_map (titled (read text_of (at key.Cls))) (part_at itself made ms kind.Config key.Config)
+
+  model : (cls : List ℕ) (root : Bool) → is_some (under key.Schema) ≡ true → IfSome (under key.Schema) (IsRight (Some kind.Schema))
+      → IfSome (under key.Config) (IsRight (Some kind.Config))
+      → IsWhole (out-Body (body.Model cls root configured (or_any (node_at key.Schema))))
+  model cls root there h c =
+      rolled _ (Body-F.Model cls root configured (or_any (node_at key.Schema))) (rolls-Model cls root configured (or_any (node_at key.Schema)))
+      (config_right (read text_of (at key.Cls)) (under key.Config) c, each_append IsAllowed _ [] (inner_right there h) tt)
+
+  with_fields : (k : FieldsKind) (total : Option Bool) (config : Option Settings) (cls : Option (List ℕ))
+      → IfSome (under key.Fields) (IsRight (Some (kind.Fields k))) → IfSome (under key.ExtrasSchema) (IsRight (Some kind.Schema))
+      → IfSome config AreSettings → (k ≡ fields.Model → (config ≡ None) × (cls ≡ None))
+      → IsWhole (out-Body (fields_body at (part_at itself made ms) k total (or_empty (part_at itself made ms (kind.Fields k) key.Fields)) config cls))
+  with_fields k total config cls f x settings of_model =
+      let fs = or_empty (part_at itself made ms (kind.Fields k) key.Fields) in
+      let rule = fields_rule k total (read extra_behavior_of (at key.ExtraBehavior)) fs in
+      let right = fields_right k (under key.Fields) f in
+      rolled _ (Body-F.Fields rule (field_schemas fs) (node_at key.ExtrasSchema) config cls)
+      (rolls-Fields rule (field_schemas fs) (node_at key.ExtrasSchema) config cls) (
+        are_fields k total (read extra_behavior_of (at key.ExtraBehavior)) fs config cls right settings of_model,
+        nodes_are rule.fields fs (node_at key.ExtrasSchema) right (schema_right (under key.ExtrasSchema) x),
+      )
+
+  -- a value that has to be there
+  value_at : {Y : Type 0} (k : Key) (v : ValueKind) (f : Tree → Option Y) → ((t : Tree) → is_value v t ≡ is_some (f t))
+      → is_some (under k) ≡ true → IfSome (under k) (IsRight (Some (kind.Value v))) → is_some (read f (at k)) ≡ true
+  value_at k v f same there h = value_right v f same (at k) (shown_there (under k) there) (shown (IsRight (Some (kind.Value v))) (under k) h)
+
+  enum : is_some (under key.Members) ≡ true → IfSome (under key.Members) (IsRight (Some (kind.Value value.Members)))
+      → misfits at (enum_test ∷ []) ≡ [] → IsEnum (enum_rule at)
   enum there h e =
-      let listed = value_right value.Members members_of is_members (at (codes "members")) there h in
-      let right = or_empty_is AreMembers (read members_of (at (codes "members"))) listed (members (at (codes "members"))) in
+      let listed = value_at key.Members value.Members members_of is_members there h in
+      let right = or_empty_is AreMembers (read members_of (at key.Members)) listed (members (at key.Members)) in
       record {
         has_members = right.has_members;
         are_distinct = right.are_distinct;
         are_values = right.are_values;
-        are_of_sub_type = sub_type_is _ (at (codes "sub_type")) (at (codes "members")) listed e;
+        are_of_sub_type = sub_type_is (at key.SubType) (at key.Members) listed (tested at enum_test e);
       }
 
-  literal : is_some (at (codes "expected")) ≡ true → IfSome (at (codes "expected")) (IsRight (Some (kind.Value value.Literals)))
-      → HasItems (or_empty (read literals_of (at (codes "expected"))))
+  literal : is_some (under key.Expected) ≡ true → IfSome (under key.Expected) (IsRight (Some (kind.Value value.Literals)))
+      → HasItems (or_empty (read literals_of (at key.Expected)))
   literal there h =
-      or_empty_is HasItems (read literals_of (at (codes "expected"))) (value_right value.Literals literals_of is_literals (at (codes "expected")) there h)
-      (literals (at (codes "expected")))
+      or_empty_is HasItems (read literals_of (at key.Expected)) (value_at key.Expected value.Literals literals_of is_literals there h)
+      (literals (at key.Expected))
 
-  pub body_is_whole : (n : NodeType) → IsClean n ms → IsWhole (out-Body (body_in n ms))
-  unfolding kind_under
-  body_is_whole node.Any c = scalar rule.Any tt
-  body_is_whole node.None c = scalar rule.None tt
-  body_is_whole node.Bool c = scalar rule.Bool tt
-  body_is_whole node.Int c = scalar _ (positives (at (codes "multiple_of")))
-  body_is_whole node.Str c = scalar _ bounds
-  body_is_whole node.Bytes c = scalar _ bounds
-  body_is_whole node.Uuid c = scalar _ (versions (at (codes "version")))
-  body_is_whole node.Url c = scalar _ (counts (at (codes "max_length")), texts (at (codes "allowed_schemes")))
-  body_is_whole node.Literal c = scalar _ (literal (is_there _ c.none_absent.1.1.1.1.1.0) (c.under (codes "expected")))
-  body_is_whole node.Enum c = scalar _ (enum (is_there _ c.none_absent.1.1.1.1.1.1.0) (c.under (codes "members")) c.fits)
-  body_is_whole node.List c = sequence collection.List tt (c.under (codes "items_schema"))
-  body_is_whole node.Set c = sequence collection.Set tt (c.under (codes "items_schema"))
-  body_is_whole node.Frozen c = sequence collection.Frozen tt (c.under (codes "items_schema"))
-  body_is_whole node.Tuple c = tuple (is_there _ c.none_absent.1.1.1.1.1.0) (c.under (codes "items_schema")) c.fits
-  body_is_whole node.Dict c = dict (c.under (codes "keys_schema")) (c.under (codes "values_schema"))
-  body_is_whole node.Nullable c = nullable (at (codes "schema")) (is_there _ c.none_absent.1.1.1.1.1.0) (c.under (codes "schema"))
+-- an object in which nothing is wrong is allowed, by the row of its type
+abbrev pub IsMadeRight : TypeRow → Type 0
+IsMadeRight row = (ms : List (List ℕ × Tree)) → IsClean row.object ms
+    → AllByRecursion IsAllowed (preorder (node_made (tree_at itself ms) (part_at itself made ms) row.makes))
+
+made_by : (ms : List (List ℕ × Tree)) (n : NodeType) → IsWhole (out-Body (body_in itself made ms n))
+    → AllByRecursion IsAllowed (preorder (node_made (tree_at itself ms) (part_at itself made ms) (makes.Node n)))
+made_by ms n h = node_is _ (body_in itself made ms n) h
+
+not_built : (ms : List (List ℕ × Tree)) → AllByRecursion IsAllowed (preorder (node_made (tree_at itself ms) (part_at itself made ms) makes.NotBuilt))
+not_built ms = node_is None (body.Scalar rule.Any) (scalar rule.Any tt)
+
+-- a typed dict is no model
+no_model : (settings : Option Settings) (cls : Option (List ℕ)) → fields.TypedDict ≡ fields.Model → (settings ≡ None) × (cls ≡ None)
+no_model settings cls e = cc
+
+-- each row of the table
+pub rows_are : AllByRecursion IsMadeRight node_types
+unfolding kind_under
+rows_are = (
+  λ ms c. made_by ms node.Any (scalar rule.Any tt),
+  (
+    λ ms c. made_by ms node.None (scalar rule.None tt),
+    (
+      λ ms c. made_by ms node.Bool (scalar rule.Bool tt),
+      (
+        λ ms c. made_by ms node.Int (scalar _ (positives (at ms key.MultipleOf))),
+        (
+          λ ms c. made_by ms node.Str (scalar _ (bounds ms)),
+          (
+            λ ms c. made_by ms node.Bytes (scalar _ (bounds ms)),
+            (
+              λ ms c. made_by ms node.Uuid (scalar _ (versions (at ms key.Version))),
+              (
+                λ ms c. made_by ms node.Url (scalar _ (counts (at ms key.MaxLength), texts (at ms key.AllowedSchemes))),
+                (
+                  λ ms c. made_by ms node.Literal (scalar _ (literal ms (is_there _ c.none_absent.1.1.1.1.1.0) (c.under key.Expected))),
+                  (
+                    λ ms c. made_by ms node.Enum (scalar _ (enum ms (is_there _ c.none_absent.1.1.1.1.1.1.0) (c.under key.Members) c.fits)),
+                    (
+                      λ ms c. made_by ms node.List (sequence ms collection.List tt (c.under key.ItemsSchema)),
+                      (
+                        λ ms c. made_by ms node.Set (sequence ms collection.Set tt (c.under key.ItemsSchema)),
+                        (
+                          λ ms c. made_by ms node.Frozen (sequence ms collection.Frozen tt (c.under key.ItemsSchema)),
+                          (
+                            λ ms c. made_by ms node.Tuple (tuple ms (is_there _ c.none_absent.1.1.1.1.1.0) (c.under key.ItemsSchema) c.fits),
+                            (
+                              λ ms c. made_by ms node.Dict (dict ms (c.under key.KeysSchema) (c.under key.ValuesSchema)),
+                              (
+                                λ ms c. made_by ms node.Nullable (nullable ms (under ms key.Schema) (is_there _ c.none_absent.1.1.1.1.1.0) (c.under key.Schema)),
+                                (
+                                  λ ms c. made_by ms node.Default (default ms _ _ _ (is_there _ c.none_absent.1.1.1.1.1.0) (c.under key.Schema)),
+                                  (
+                                    λ ms c. made_by ms node.ModelFields (with_fields ms fields.Model None None None (c.under key.Fields) (c.under key.ExtrasSchema) tt (λ e. (refl, refl))),
+                                    (
+                                      λ ms c. made_by ms node.TypedDict (with_fields ms fields.TypedDict (read flag_of (at ms key.Total)) (configured ms) (read text_of (at ms key.Cls)) (c.under key.Fields) (c.under key.ExtrasSchema) (config_right (read text_of (at ms key.Cls)) (under ms key.Config) (c.under key.Config)) (no_model _ _)),
+                                      (
+                                        λ ms c. made_by ms node.Model (model ms _ _ (is_there _ c.none_absent.1.1.1.1.1.1.0) (c.under key.Schema) (c.under key.Config)),
+                                        (
+                                          λ ms c. not_built ms,
+                                          (
+                                            λ ms c. not_built ms,
+                                            (
+                                              λ ms c. not_built ms,
+                                              (
+                                                λ ms c. not_built ms,
+                                                (
+                                                  λ ms c. not_built ms,
+                                                  (
+                                                    λ ms c. not_built ms,
+                                                    (
+                                                      λ ms c. not_built ms,
+                                                      (
+                                                        λ ms c. not_built ms,
+                                                        (
+                                                          λ ms c. not_built ms,
+                                                          (
+                                                            λ ms c. not_built ms,
+                                                            (
+                                                              λ ms c. not_built ms,
+                                                              tt,
+                                                            ),
+                                                          ),
+                                                        ),
+                                                      ),
+                                                    ),
+                                                  ),
+                                                ),
+                                              ),
+                                            ),
+                                          ),
+                                        ),
+                                      ),
+                                    ),
+                                  ),
+                                ),
+                              ),
+                            ),
+                          ),
+                        ),
+                      ),
+                    ),
+                  ),
+                ),
+              ),
+            ),
+          ),
+        ),
+      ),
+    ),
+  ),
+)
+
+-- a field in which nothing is wrong, by the row of its type
+abbrev pub IsFieldRight : TypeRow → Type 0
+IsFieldRight row = (ms : List (List ℕ × Tree)) → IsClean row.object ms → IsAllowedField (field_in itself made ms)
+
+field_is : (ms : List (List ℕ × Tree)) → is_some (under ms key.Schema) ≡ true → IfSome (under ms key.Schema) (IsRight (Some kind.Schema))
+    → IsAllowedField (field_in itself made ms)
+field_is ms there h = record { alias = aliases (at ms key.ValidationAlias); schema = inner_right ms there h }
+
+pub field_rows_are : (k : FieldsKind) → AllByRecursion IsFieldRight (field_types k)
+unfolding kind_under
+field_rows_are fields.Model = (λ ms c. field_is ms (is_there _ c.none_absent.1.0) (c.under key.Schema), tt)
+field_rows_are fields.TypedDict = (λ ms c. field_is ms (is_there _ c.none_absent.1.0) (c.under key.Schema), tt)
+
+-- a config in which nothing is wrong
+fits_flags : (t u : Tree) → fits fit.NotBothFalse t u ≡ true → not (is_false (flag_of t) && is_false (flag_of u)) ≡ true
+unfolding fits
+fits_flags t u e = e
+
+-- by the flags that are written: by name, by alias, and whether names are asked for
+read_by : (names aliases : Option Bool) (populate : Bool) → not (is_false names && is_false aliases) ≡ true
+    → unwrap_or aliases true || unwrap_or names (populate || is_false aliases) ≡ true
+read_by names None populate e = refl
+read_by names (Some true) populate e = refl
+read_by None (Some false) true e = refl
+read_by None (Some false) false e = refl
+read_by (Some true) (Some false) populate e = refl
+read_by (Some false) (Some false) populate e = cc
+
+either_read : (names aliases : Option Tree) (populate : Bool) → misfit config_test names aliases ≡ []
+    → unwrap_or (read flag_of aliases) true || unwrap_or (read flag_of names) (populate || is_false (read flag_of aliases)) ≡ true
+either_read None None populate e = refl
+either_read None (Some u) populate e = read_by None (flag_of u) populate refl
+either_read (Some t) None populate e = refl
+either_read (Some t) (Some u) populate e =
+    read_by (flag_of t) (flag_of u) populate (fits_flags t u (right (fits fit.NotBothFalse t u) _ e))
+
+pub settings_are : (ms : List (List ℕ × Tree)) → IsClean config ms → AreSettings (settings (tree_at itself ms))
+settings_are ms c = record {
+  bounds = record { least_is_count = counts (at ms key.StrMinLength); most_is_count = counts (at ms key.StrMaxLength) };
+  is_read =
+      either_read (at ms key.ValidateByName) (at ms key.ValidateByAlias) (flag_or false (at ms key.PopulateByName))
+      (tested (at ms) config_test c.fits);
+}

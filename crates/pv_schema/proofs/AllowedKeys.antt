@@ -1,4 +1,4 @@
--- Where nothing is wrong with the members of a node, nothing is wrong with what is found under a key, and what has to be there is there.
+-- Where nothing is wrong with the members of an object, nothing is wrong with what is found under a key, and what has to be there is there.
 use Rattle.std.proofs.Common.{◌≡◌, ℕ, Bool, true, false, if◌then◌else◌, List, [], ◌∷◌, ◌++◌, Option, None, Some, is_some, not, option_map, flat_map, refl, sym, ◌∙◌, subst}
 use Rattle.std.proofs.lemmas.Slice.Eq.{bytes_eq-Decides}
 use Rattle.std.specs.Str.{bytes_eq}
@@ -11,15 +11,24 @@ use Rattle.pv_node.specs.Preorder.{preorder, optional}
 use Rattle.pv_schema_values.specs.Values.{is_value, literals_of, members_of}
 use Rattle.pv_schema_values.specs.declared.ValueKind.{ValueKind}
 use Rattle.pv_schema_values.specs.declared.ValueKind.TheVariants as value
+use Rattle.std.specs.List.{IsDistinct}
+use Rattle.pv_tree.specs.Names.{HasDistinctNames}
+use Rattle.pv_rules.specs.declared.FieldsKind.{FieldsKind}
 use Rattle.pv_schema.specs.Find.{find}
-use Rattle.pv_schema.specs.Table.{Rows, kind_under}
-use Rattle.pv_schema.specs.Checking.{schema_faults, schemas_faults, faults, faults_below, member_faults, all_under, is_absent, missing_in}
-use Rattle.pv_schema.specs.Making.{node_of, nodes_of, or_empty, read}
-use Rattle.pv_schema.specs.Allowed.{IsAllowed}
+use Rattle.pv_schema.specs.Keys.{itself}
+use Rattle.pv_schema.specs.Table.{ObjectRow, kind_under}
+use Rattle.pv_schema.specs.Checking.{faults, faults_under, member_faults, all_under, is_absent, missing}
+use Rattle.pv_schema.specs.Fields.{Field}
+use Rattle.pv_schema.specs.Making.{MadeAs, made}
+use Rattle.pv_schema.specs.Written.{or_empty, read}
+use Rattle.pv_schema.specs.Configs.{titled}
+use Rattle.pv_schema.specs.Allowed.{IsAllowed, IsAlias, AreSettings}
 use Rattle.pv_schema.specs.declared.fault.Refusal.{Refusal}
+use Rattle.pv_schema.specs.declared.key.Key.{Key}
 use Rattle.pv_schema.specs.declared.kind.Kind.{Kind}
 use Rattle.pv_schema.specs.declared.kind.Kind.TheVariants as kind
-use Rattle.pv_schema.specs.declared.node_type.NodeType.{NodeType}
+use Rattle.pv_schema.specs.declared.row.KeyRow.{KeyRow}
+use Rattle.pv_schema.proofs.CheckOpens.{value_opens}
 
 pub both_empty : {X : Type 0} (xs ys : List X) → xs ++ ys ≡ [] → (xs ≡ []) × (ys ≡ [])
 both_empty [] ys e = (refl, e)
@@ -33,10 +42,29 @@ pub right : {X : Type 0} (b : Bool) (x : X) → (if b then [] else x ∷ []) ≡
 right true x e = refl
 right false x e = cc
 
--- a tree with which nothing is wrong is allowed, as a schema and as a list of schemas
-pub record IsSound (t : Tree) : Type 0 where
-  pub as_schema : schema_faults t ≡ [] → AllByRecursion IsAllowed (preorder (node_of t))
-  pub as_schemas : schemas_faults t ≡ [] → AllByRecursion IsAllowed (flat_map preorder (nodes_of t))
+-- a field: its alias, and the nodes of its schema
+pub record IsAllowedField (f : Field) : Type 0 where
+  pub alias : IfSome (f.keys).validation_alias IsAlias
+  pub schema : AllByRecursion IsAllowed (preorder f.schema)
+
+-- fields with names: no name comes twice
+pub record AreAllowedFields (fs : List (List ℕ × Field)) : Type 0 where
+  pub names : HasDistinctNames fs
+  pub each : AllByRecursion (λ f. IsAllowedField f.1) fs
+
+-- what is made of a tree is allowed
+abbrev pub AreAllowedAs : (k : Kind) → MadeAs k → Type 0
+AreAllowedAs (kind.Value v) m = Unit {0}
+AreAllowedAs kind.Schema n = AllByRecursion IsAllowed (preorder n)
+AreAllowedAs kind.Schemas ns = AllByRecursion IsAllowed (flat_map preorder ns)
+AreAllowedAs (kind.Fields k) fs = AreAllowedFields fs
+AreAllowedAs (kind.Field k) f = IsAllowedField f
+AreAllowedAs kind.Config s = AreSettings s
+AreAllowedAs kind.NotBuilt m = Unit {0}
+
+-- a tree with which nothing is wrong as a kind is allowed as that kind
+abbrev pub IsSound : Tree → Type 0
+IsSound t = (k : Kind) → faults t k ≡ [] → AreAllowedAs k (made t k)
 
 pub each_append : {X : Type 0} (P : X → Type 0) (xs ys : List X) → AllByRecursion P xs → AllByRecursion P ys → AllByRecursion P (xs ++ ys)
 each_append P [] ys h k = k
@@ -44,14 +72,14 @@ each_append P (x ∷ xs) ys h k = (h.0, each_append P xs ys h.1 k)
 
 -- nothing is wrong with a tree under a key that takes a kind
 abbrev pub IsRight : Option Kind → Tree → Type 0
-IsRight k t = (faults_below k t ≡ []) × IsSound t
+IsRight k t = (faults_under itself faults k t ≡ []) × IsSound t
 
-pub members_right : (n : NodeType) (ms : List (List ℕ × Tree)) → flat_map (member_faults n) ms ≡ [] → AllByRecursion (λ m. IsSound m.1) ms
-    → AllByRecursion (λ m. IsRight (kind_under n m.0) m.1) ms
-members_right n [] e h = tt
-members_right n (m ∷ ms) e h =
-    let p = both_empty (member_faults n m) (flat_map (member_faults n) ms) e in
-    ((none_under (Name m.0) (faults_below (kind_under n m.0) m.1) p.0, h.0), members_right n ms p.1 h.1)
+pub members_right : (o : ObjectRow) (ms : List (List ℕ × Tree)) → flat_map (member_faults itself faults o) ms ≡ [] → AllByRecursion (λ m. IsSound m.1) ms
+    → AllByRecursion (λ m. IsRight (kind_under o m.0) m.1) ms
+members_right o [] e h = tt
+members_right o (m ∷ ms) e h =
+    let p = both_empty (member_faults itself faults o m) (flat_map (member_faults itself faults o) ms) e in
+    ((none_under (Name m.0) (faults_under itself faults (kind_under o m.0) m.1) p.0, h.0), members_right o ms p.1 h.1)
 
 first_found : {X : Type 0} (P : X → Type 0) (b : Bool) (x : X) (o : Option X) → (b ≡ true → P x) → IfSome o P → IfSome (if b then Some x else o) P
 first_found P true x o h k = h refl
@@ -67,31 +95,50 @@ there : (b : Bool) (r : Refusal) (rs : List Refusal) → (if b then r ∷ rs els
 there true r rs e = cc
 there false r rs e = (refl, e)
 
-pub none_absent : (ms : List (List ℕ × Tree)) (rs : Rows) → missing_in ms rs ≡ [] → AllByRecursion (λ r. is_absent ms r ≡ false) rs
-none_absent ms [] e = tt
-none_absent ms (r ∷ rs) e = let p = there (is_absent ms r) _ (missing_in ms rs) e in (p.0, none_absent ms rs p.1)
+pub none_absent : (at : Key → Option Tree) (rs : List KeyRow) → missing at rs ≡ [] → AllByRecursion (λ r. is_absent at r ≡ false) rs
+none_absent at [] e = tt
+none_absent at (r ∷ rs) e = let p = there (is_absent at r) _ (missing at rs) e in (p.0, none_absent at rs p.1)
 
-pub is_there : (b : Bool) → not b ≡ false → b ≡ true
-is_there true e = refl
-is_there false e = cc
+-- a tree stands for itself
+pub is_there : (o : Option Tree) → not (is_some (option_map itself o)) ≡ false → is_some o ≡ true
+is_there None e = cc
+is_there (Some t) e = refl
+
+pub shown : (P : Tree → Type 0) (o : Option Tree) → IfSome o P → IfSome (option_map itself o) P
+shown P None h = tt
+shown P (Some t) h = h
+
+pub shown_there : (o : Option Tree) → is_some o ≡ true → is_some (option_map itself o) ≡ true
+shown_there None e = e
+shown_there (Some t) e = refl
 
 -- the schema under a key, and the list of schemas
-pub schema_right : (o : Option Tree) → IfSome o (IsRight (Some kind.Schema)) → AllByRecursion IsAllowed (flat_map preorder (optional (option_map node_of o)))
-unfolding faults
+pub schema_right : (o : Option Tree) → IfSome o (IsRight (Some kind.Schema)) → AllByRecursion IsAllowed (flat_map preorder (optional (option_map (λ t. made t kind.Schema) o)))
 schema_right None h = tt
-schema_right (Some t) h = each_append IsAllowed (preorder (node_of t)) [] (h.1.as_schema h.0) tt
+schema_right (Some t) h = each_append IsAllowed (preorder (made t kind.Schema)) [] (h.1 kind.Schema h.0) tt
 
-pub schemas_right : (o : Option Tree) → IfSome o (IsRight (Some kind.Schemas)) → AllByRecursion IsAllowed (flat_map preorder (or_empty (option_map nodes_of o)))
-unfolding faults
+pub schemas_right : (o : Option Tree) → IfSome o (IsRight (Some kind.Schemas)) → AllByRecursion IsAllowed (flat_map preorder (or_empty (option_map (λ t. made t kind.Schemas) o)))
 schemas_right None h = tt
-schemas_right (Some t) h = h.1.as_schemas h.0
+schemas_right (Some t) h = h.1 kind.Schemas h.0
+
+pub no_fields : AreAllowedFields []
+unfolding IsDistinct
+no_fields = record { names = tt; each = tt }
+
+pub fields_right : (k : FieldsKind) (o : Option Tree) → IfSome o (IsRight (Some (kind.Fields k))) → AreAllowedFields (or_empty (option_map (λ t. made t (kind.Fields k)) o))
+fields_right k None h = no_fields
+fields_right k (Some t) h = h.1 (kind.Fields k) h.0
+
+pub config_right : (cls : Option (List ℕ)) (o : Option Tree) → IfSome o (IsRight (Some kind.Config))
+    → IfSome (option_map (titled cls) (option_map (λ t. made t kind.Config) o)) AreSettings
+config_right cls None h = tt
+config_right cls (Some t) h = let s = h.1 kind.Config h.0 in record { bounds = s.bounds; is_read = s.is_read }
 
 -- a value that has to be there
 pub value_right : {Y : Type 0} (v : ValueKind) (f : Tree → Option Y) → ((t : Tree) → is_value v t ≡ is_some (f t))
     → (o : Option Tree) → is_some o ≡ true → IfSome o (IsRight (Some (kind.Value v))) → is_some (read f o) ≡ true
-unfolding faults
 value_right v f same None is h = is
-value_right v f same (Some t) is h = sym (same t) ∙ right (is_value v t) _ h.0
+value_right v f same (Some t) is h = sym (same t) ∙ right (is_value v t) _ (sym (value_opens t v) ∙ h.0)
 
 pub is_literals : (t : Tree) → is_value value.Literals t ≡ is_some (literals_of t)
 unfolding is_value

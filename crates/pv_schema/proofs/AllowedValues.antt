@@ -11,8 +11,12 @@ use Rattle.pv_rules.specs.declared.Literal.TheVariants as literal
 use Rattle.pv_rules.specs.declared.EnumMember.{EnumMember}
 use Rattle.pv_tree.specs.Parts.{items_at}
 use Rattle.pv_schema_values.specs.Values.{int_of, natural_within, count_of, positive, positive_of, version_of, put_first, all_of, some_of, some_in, text_of, texts_of, literal_of, literals_of, member_value_at, member_value_of, member_by, member_in, member_of, are_members, where_distinct, members_of}
-use Rattle.pv_schema.specs.Making.{read, or_empty}
-use Rattle.pv_schema.specs.Allowed.{IsCount, HasItems, IsPositive, IsVersion, IsIntOrText}
+use Rattle.pv_schema_values.specs.Values.{step_of, path_by, path_in, path_of, alias_by, alias_of}
+use Rattle.std.specs.Option.{option_or}
+use Rattle.pv_tree.specs.declared.Step.{Step}
+use Rattle.pv_tree.specs.declared.Step.TheVariants.{Name, Index}
+use Rattle.pv_schema.specs.Written.{read, or_empty}
+use Rattle.pv_schema.specs.Allowed.{IsCount, HasItems, IsPositive, IsVersion, IsIntOrText, IsStep, IsPath, IsAlias}
 
 module _ {X : Type 0} (P : X → Type 0) where
   kept : (b : Bool) (x : X) → (b ≡ true → P x) → IfSome (if b then Some x else None) P
@@ -119,6 +123,49 @@ literals_is t = has_items anything (some_in literal_of (items_at (out-Tree t))) 
 
 pub literals : (o : Option Tree) → IfSome (read literals_of o) HasItems
 literals = read_is HasItems literals_of literals_is
+
+-- an alias
+named_step : (o : Option (List ℕ)) (i : Option ℕ) → IfSome i IsCount → IfSome (option_or (option_map Name o) (option_map Index i)) IsStep
+named_step (Some name) i h = tt
+named_step None None h = tt
+named_step None (Some i) h = h
+
+step_is : (t : Tree) → IfSome (step_of t) IsStep
+unfolding step_of
+step_is t = named_step (text_of t) (count_of t) (count_is t)
+
+path_first : (o : Option (List ℕ)) (ys : Option (List Step)) → IfSome ys (AllByRecursion IsStep) → IfSome (put_first (option_map Name o) ys) IsPath
+path_first None ys h = tt
+path_first (Some name) None h = tt
+path_first (Some name) (Some ys) h = h
+
+path_is_by : (ts : List Tree) → IfSome (path_by ts) IsPath
+path_is_by [] = tt
+path_is_by (t ∷ ts) = path_first (text_of t) (all_of step_of ts) (all_each IsStep step_of step_is ts)
+
+path_is_in : (o : Option (List Tree)) → IfSome (path_in o) IsPath
+path_is_in None = tt
+path_is_in (Some ts) = path_is_by ts
+
+path_is : (t : Tree) → IfSome (path_of t) IsPath
+unfolding path_of
+path_is t = path_is_in (items_at (out-Tree t))
+
+alias_is_by : (text : Option (List ℕ)) (path : Option (List Step)) (paths : Option (List (List Step))) → IfSome path IsPath → IfSome paths (Filled IsPath)
+    → IfSome (alias_by text path paths) IsAlias
+alias_is_by (Some text) path paths h k = (omega arith, (tt, tt))
+alias_is_by None (Some path) paths h k = (omega arith, (h, tt))
+alias_is_by None None None h k = tt
+alias_is_by None None (Some paths) h k = k
+
+alias_is : (t : Tree) → IfSome (alias_of t) IsAlias
+unfolding alias_of
+alias_is t =
+    alias_is_by (text_of t) (path_of t) (some_in path_of (items_at (out-Tree t))) (path_is t)
+    (some_in_filled IsPath path_of path_is (items_at (out-Tree t)))
+
+pub aliases : (o : Option Tree) → IfSome (read alias_of o) IsAlias
+aliases = read_is IsAlias alias_of alias_is
 
 -- the members of an enum
 abbrev HasValue : EnumMember → Type 0

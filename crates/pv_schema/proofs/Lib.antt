@@ -1,7 +1,11 @@
 pub mod CheckOpens
 pub mod TableLemmas
+pub mod Rest
 pub mod MakeOpens
 pub mod AllowedValues
 pub mod AllowedKeys
+pub mod AllowedFields
 pub mod AllowedBodies
 pub mod Allowing
+pub mod Naming
+pub mod Ineffective

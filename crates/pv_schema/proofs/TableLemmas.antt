@@ -1,28 +1,27 @@
--- Keys in the two parts of a type's rows.
-use Rattle.std.proofs.Common.{◌≡◌, ℕ, Bool, true, false, if◌then◌else◌, List, [], ◌∷◌, ◌++◌, refl, ap, sym, ◌∙◌, Option, Some, None}
+-- Keys in the two parts of an object's row.
+use Rattle.std.proofs.Common.{◌≡◌, ℕ, Bool, true, false, if◌then◌else◌, List, [], ◌∷◌, ◌++◌, refl, sym, ap, ◌∙◌, Option, Some, None}
 use Rattle.std.specs.Prelude.{bytes_eq}
-use Rattle.pv_schema.specs.Find.{find}
-use Rattle.pv_schema.specs.Table.{Row, Rows, kind_of, kind_under, own, common}
+use Rattle.pv_schema.specs.Keys.{text}
+use Rattle.pv_schema.specs.Table.{ObjectRow, kind_in, kind_under}
 use Rattle.pv_schema.specs.declared.kind.Kind.{Kind}
-use Rattle.pv_schema.specs.declared.node_type.NodeType.{NodeType}
+use Rattle.pv_schema.specs.declared.row.KeyRow.{KeyRow}
 
 abbrev or_else : Option Kind → Option Kind → Option Kind
 or_else None b = b
 or_else (Some k) b = Some k
 
-chosen : (b : Bool) (r : Row) (o : Option Row) (p : Option Row) (q : Option Kind) → kind_of p ≡ or_else (kind_of o) q
-    → kind_of (if b then Some r else p) ≡ or_else (kind_of (if b then Some r else o)) q
-chosen true r o p q e = refl
-chosen false r o p q e = e
+chosen : (b : Bool) (k : Kind) (o p q : Option Kind) → p ≡ or_else o q → (if b then Some k else p) ≡ or_else (if b then Some k else o) q
+chosen true k o p q e = refl
+chosen false k o p q e = e
 
-find-append : (key : List ℕ) (rs bs : Rows) → kind_of (find key (rs ++ bs)) ≡ or_else (kind_of (find key rs)) (kind_of (find key bs))
-find-append key [] bs = refl
-find-append key (r ∷ rs) bs = chosen (bytes_eq key r.0) r.1 (find key rs) (find key (rs ++ bs)) (kind_of (find key bs)) (find-append key rs bs)
+kind_append : (rs bs : List KeyRow) (name : List ℕ) → kind_in (rs ++ bs) name ≡ or_else (kind_in rs name) (kind_in bs name)
+kind_append [] bs name = refl
+kind_append (r ∷ rs) bs name = chosen (bytes_eq name (text r.key)) r.kind (kind_in rs name) (kind_in (rs ++ bs) name) (kind_in bs name) (kind_append rs bs name)
 
-pub kind_found : (n : NodeType) (key : List ℕ) (k : Kind) → Some k ≡ kind_of (find key common) → Some k ≡ kind_under n key
+pub kind_found : (o : ObjectRow) (name : List ℕ) (k : Kind) → Some k ≡ kind_in o.shared name → Some k ≡ kind_under o name
 unfolding kind_under
-kind_found n key k e = sym (find-append key common (own n) ∙ ap (λ o. or_else o (kind_of (find key (own n)))) (sym e))
+kind_found o name k e = sym (kind_append o.shared o.own name ∙ ap (λ p. or_else p (kind_in o.own name)) (sym e))
 
-pub kind_not_found : (n : NodeType) (key : List ℕ) → None ≡ kind_of (find key common) → kind_of (find key (own n)) ≡ kind_under n key
+pub kind_not_found : (o : ObjectRow) (name : List ℕ) → None ≡ kind_in o.shared name → kind_in o.own name ≡ kind_under o name
 unfolding kind_under
-kind_not_found n key e = sym (find-append key common (own n) ∙ ap (λ o. or_else o (kind_of (find key (own n)))) (sym e))
+kind_not_found o name e = sym (kind_append o.shared o.own name ∙ ap (λ p. or_else p (kind_in o.own name)) (sym e))

@@ -1,8 +1,17 @@
 -- What the table of keys allows of the nodes of a schema: how large numbers are, lists with
 -- something in them, members that are distinct, and positions that are there.
-use Rattle.std.specs.Prelude.{◌≡◌, ℕ, ◌<◌, ◌≤◌, List, length, ℤ, pos, Option, None, IsTrue}
-use Rattle.std.specs.List.{AllByRecursion}
+use Rattle.std.specs.Prelude.{◌≡◌, ℕ, ◌<◌, ◌≤◌, true, ◌||◌, List, [], ◌∷◌, map, length}
+use Rattle.std.specs.Prelude.{ℤ, pos, Option, None, IsTrue, bytes_eq}
+use Rattle.std.specs.List.{AllByRecursion, IsDistinct}
 use Rattle.std.specs.Option.{IfSome}
+use Rattle.pv_tree.specs.declared.Step.{Step}
+use Rattle.pv_tree.specs.declared.Step.TheVariants.{Name, Index}
+use Rattle.pv_rules.specs.declared.AliasRule.{AliasRule}
+use Rattle.pv_rules.specs.declared.FieldRule.{FieldRule}
+use Rattle.pv_rules.specs.declared.FieldsRule.{FieldsRule}
+use Rattle.pv_rules.specs.declared.FieldsKind.{FieldsKind}
+use Rattle.pv_rules.specs.declared.FieldsKind.TheVariants as fields
+use Rattle.pv_rules.specs.declared.Settings.{Settings}
 use Rattle.pv_rules.specs.declared.Literal.{Literal}
 use Rattle.pv_rules.specs.declared.Literal.TheVariants as literal
 use Rattle.pv_rules.specs.declared.EnumRule.{EnumRule}
@@ -87,6 +96,41 @@ pub record HasPositions (r : GatherRule) (n : ℕ) : Type 0 where
   pub variadic : IfSome r.variadic_item_index (λ v. v < n)
   pub bounds : AreBounds r.min_length r.max_length
 
+-- a later step of a path: a name or a count
+abbrev pub IsStep : Step → Type 0
+IsStep (Name name) = Unit {0}
+IsStep (Index i) = IsCount i
+
+-- a path: it begins with a name
+abbrev pub IsPath : List Step → Type 0
+IsPath [] = ⊥
+IsPath (Name name ∷ steps) = AllByRecursion IsStep steps
+IsPath (Index i ∷ steps) = ⊥
+
+-- an alias
+abbrev pub IsAlias : AliasRule → Type 0
+IsAlias a = HasItems a.paths × AllByRecursion IsPath a.paths
+
+-- a field of a model or of a typed dict; each field of a model has to be given
+pub record IsFieldOf (k : FieldsKind) (f : FieldRule) : Type 0 where
+  pub alias : IfSome f.validation_alias IsAlias
+  pub required : k ≡ fields.Model → f.required ≡ true
+
+-- settings: a field is read by its alias or by its name
+pub record AreSettings (s : Settings) : Type 0 where
+  pub bounds : AreBounds s.str_min_length s.str_max_length
+  pub is_read : s.validate_by_alias || s.validate_by_name ≡ true
+
+-- of a node with fields and so many schemas of fields; the fields of a model have no config and no
+-- class
+pub record AreFields (r : FieldsRule) (n : ℕ) (settings : Option Settings)
+    (class : Option (List ℕ)) : Type 0 where
+  pub names : IsDistinct bytes_eq (map (λ f. f.name) r.fields)
+  pub schemas : n ≡ length r.fields
+  pub each : AllByRecursion (IsFieldOf r.kind) r.fields
+  pub config : IfSome settings AreSettings
+  pub of_model : r.kind ≡ fields.Model → (settings ≡ None) × (class ≡ None)
+
 -- what a node may ask for
 abbrev pub IsAllowedBody : {X Y : Type 0} → Body-F X Y → Type 0
 IsAllowedBody (Body-F.Scalar r) = IsAllowedRule r
@@ -94,6 +138,9 @@ IsAllowedBody (Body-F.Sequence r items) = IsSequence r.kind × HasNoPositions r
 IsAllowedBody (Body-F.Tuple r items) = HasPositions r (length items)
 IsAllowedBody (Body-F.Dict r keys values) = (r.kind ≡ collection.Dict) × HasNoPositions r
 IsAllowedBody (Body-F.Nullable inner) = Unit {0}
+IsAllowedBody (Body-F.Fields r fields extras config cls) = AreFields r (length fields) config cls
+IsAllowedBody (Body-F.Model cls root config inner) = IfSome config AreSettings
+IsAllowedBody (Body-F.Default default validate on_error inner) = Unit {0}
 
 -- a node
 abbrev pub IsAllowed : Node → Type 0

@@ -21,16 +21,6 @@ abbrev pub Answers : {T : Type 0} → Result T CheckFault → List Refusal → T
 Answers (Ok x) all = all ≡ []
 Answers (Err e) all = FailsBy e all
 
--- a fault says why there is no value; want of memory says nothing
-abbrev pub IsRefused : {T : Type 0} → CheckFault → Result T Refusal → Type 0
-IsRefused fault.Memory found = Unit {0}
-IsRefused (fault.Refused r) found = found ≡ Err r
-
--- an answer is a value, or says why there is none
-abbrev pub Gives : {T : Type 0} → Result T CheckFault → Result T Refusal → Type 0
-Gives (Ok x) found = found ≡ Ok x
-Gives (Err e) found = IsRefused e found
-
 -- a refusal seen from the whole, where it is one step inside
 abbrev pub IsUnder : Step → CheckFault → CheckFault → Type 0
 IsUnder step fault.Memory fault.Memory = Unit {0}

@@ -1,8 +1,14 @@
 pub mod Find
+pub mod Keys
 pub mod Table
 pub mod Rows
 pub mod Checking
+pub mod Written
+pub mod NodeRules
+pub mod Configs
+pub mod Fields
 pub mod Making
 pub mod Answers
 pub mod Reading
 pub mod Allowed
+pub mod Effects

@@ -4,7 +4,8 @@ use Rattle.pv_tree.specs.declared.Step.{Step}
 use Rattle.pv_tree.specs.declared.Tree.{Tree}
 use Rattle.pv_node.specs.declared.Node.{Node}
 use Rattle.pv_node.specs.Preorder.{node_count}
-use Rattle.pv_schema.specs.Checking.{schema_faults}
+use Rattle.pv_schema.specs.Checking.{faults}
+use Rattle.pv_schema.specs.declared.kind.Kind.TheVariants as kind
 use Rattle.pv_schema.specs.Answers.{first}
 use Rattle.pv_schema.specs.Making.{node_of}
 use Rattle.pv_schema.specs.declared.fault.Code.{Code}
@@ -29,7 +30,7 @@ schema_by None n = counted n
 
 -- the schema that a tree is, or why it is none
 unfoldable pub schema_of : Tree → Result Node SchemaFault
-schema_of t = schema_by (first (schema_faults t)) (node_of t)
+schema_of t = schema_by (first (faults t kind.Schema)) (node_of t)
 
 -- a fault is the one that is wanted; want of memory may come in its place
 abbrev pub FaultIs : SchemaFault → Result Node SchemaFault → Type 0

@@ -1,28 +1,34 @@
-//! What is wrong with a schema, up to the first refusal.
+//! What is wrong with a tree as what it is asked to be, up to the first refusal.
 
-ghost use Rattle.std.specs.Prelude.{◌≡◌};
+ghost use Rattle.std.specs.Prelude.{◌≡◌, Some};
 ghost use Rattle.std.specs.List.{flat_map};
-ghost use Rattle.pv_tree.specs.declared.Step.TheVariants.{Index};
-ghost use Rattle.pv_schema.specs.Checking as spec;
+ghost use Rattle.pv_tree.specs.Parts.{items_at, members_at};
+ghost use Rattle.pv_tree.specs.declared.Step.TheVariants.{Index, Name};
+ghost use Rattle.pv_tree.specs.declared.Tree.{out-Tree};
 ghost use Rattle.pv_schema.specs.Answers.{Answers};
+ghost use Rattle.pv_schema.specs.Checking as spec;
+ghost use Rattle.pv_schema.specs.Checking.{faults};
+ghost use Rattle.pv_schema.specs.Keys.{itself, tree_at};
+ghost use Rattle.pv_schema.specs.Rows.{object_in, types_in};
 
 use crate::check_fault::CheckFault;
 use crate::fault::{Code, ShapeCode};
-use crate::fitting::{check_fit, check_missing};
+use crate::fits::check_tests;
+use crate::key::Key;
 use crate::kind::Kind;
-use crate::listing::{kind_under, type_of};
-use crate::node_type::NodeType;
-use crate::refusing::{refused, under_item, under_key};
-use crate::table::{common, own};
+use crate::missing::check_missing;
+use crate::refusals::{refused, refused_at, under_item, under_key};
+use crate::row::{ObjectRow, TypeRow};
+use crate::row_lookup::{kind_under, row_of};
+use crate::table::{config, field_types, node_types};
 use pv_schema_values::{ValueKind, is_value};
 use pv_text::Text;
 use pv_tree::{Members, Tree};
 use std::alloc::Global;
 
 /// A value that holds no schema.
-#[tactic(auto, unfolding(crate::specs::Checking::faults))]
 fn check_value(alloc: Global, kind: ValueKind, tree: &Tree) -> Result<(), CheckFault>
-    ensures { Answers result (spec.faults (Kind.Value kind) tree.now) }
+    ensures { Answers result (spec.value_faults kind tree.now) }
 {
     if is_value(alloc, kind, tree)? {
         Ok(())
@@ -31,114 +37,189 @@ fn check_value(alloc: Global, kind: ValueKind, tree: &Tree) -> Result<(), CheckF
     }
 }
 
-/// What is left to say of a node whose keys are right: what has to be there, and what has to fit.
-fn check_rest(
-    alloc: Global,
-    node_type: NodeType,
-    members: &[(Text, Tree)],
-) -> Result<(), CheckFault>
-    ensures { Answers result (spec.rest_faults node_type members.now) }
+/// What is left to say of an object whose keys are right.
+#[tactic(auto, using(crate::proofs::Rest::rest_splits))]
+fn check_rest(alloc: Global, object: ObjectRow, members: &[(Text, Tree)]) -> Result<(), CheckFault>
+    ensures { Answers result
+        (spec.rest_faults (tree_at itself members.now) (object_in object)) }
 {
-    check_missing(alloc, common(), members)?;
-    check_missing(alloc, own(node_type), members)?;
-    check_fit(alloc, node_type, members)
+    check_missing(alloc, object.shared, members)?;
+    check_missing(alloc, object.own, members)?;
+    check_tests(alloc, object.tests, members)
 }
 
 /// What stands under a key, where this may stand there.
 #[cycle(check)]
-#[tactic(auto, unfolding(crate::specs::Checking::faults))]
-fn check_below(alloc: Global, kind: Option<Kind>, tree: &Tree) -> Result<(), CheckFault>
-    ensures { Answers result (spec.faults_below kind tree.now) }
+fn check_under(alloc: Global, kind: Option<Kind>, tree: &Tree) -> Result<(), CheckFault>
+    ensures { Answers result (spec.faults_under itself faults kind tree.now) }
 {
     match kind {
+        Some(kind) => check(alloc, kind, tree),
         None => Err(refused(alloc, Code::Shape(ShapeCode::UnknownKey))),
-        Some(Kind::Value(kind)) => check_value(alloc, kind, tree),
-        Some(Kind::Schema) => check_schema(alloc, tree),
-        Some(Kind::Schemas) => check_schemas(alloc, tree),
-        Some(Kind::NotBuilt) => Err(refused(alloc, Code::NotYet)),
     }
 }
 
 #[cycle(check)]
 fn check_member(
     alloc: Global,
-    node_type: NodeType,
+    object: ObjectRow,
     name: &Text,
     value: &Tree,
 ) -> Result<(), CheckFault>
-    ensures { Answers result (spec.member_faults node_type (name.now, value.now)) }
+    ensures { Answers result
+        (spec.member_faults itself faults (object_in object) (name.now, value.now)) }
 {
-    match check_below(alloc, kind_under(node_type, name.as_str()), value) {
+    match check_under(alloc, kind_under(object, name.as_str()), value) {
         Ok(()) => Ok(()),
         Err(fault) => Err(under_key(alloc, fault, name.as_str())),
     }
 }
 
-/// The keys of a node in the order in which they stand.
+/// The members of an object in the order in which they stand.
 #[cycle(check)]
-fn check_keys(alloc: Global, node_type: NodeType, members: &Members) -> Result<(), CheckFault>
-    ensures { Answers result (flat_map (spec.member_faults node_type) members.now.members) }
+fn check_members(alloc: Global, object: ObjectRow, members: &Members) -> Result<(), CheckFault>
+    ensures { Answers result
+        (flat_map (spec.member_faults itself faults (object_in object)) members.now.members) }
 {
     for (name, value) in members.as_slice() {
-        check_member(alloc, node_type, name, value)?;
+        check_member(alloc, object, name, value)?;
     }
     Ok(())
 }
 
+/// An object that takes what the row says.
 #[cycle(check)]
-fn check_members(alloc: Global, members: &Members) -> Result<(), CheckFault>
+fn check_object(alloc: Global, object: ObjectRow, members: &Members) -> Result<(), CheckFault>
     ensures { Answers result
-        (spec.members_faults (spec.type_among members.now.members) members.now.members) }
+        (spec.object_faults itself faults (object_in object) members.now.members) }
 {
-    let node_type = type_of(alloc, members.as_slice())?;
-    check_keys(alloc, node_type, members)?;
-    check_rest(alloc, node_type, members.as_slice())
+    check_members(alloc, object, members)?;
+    check_rest(alloc, object, members.as_slice())
+}
+
+/// An object with these members, of one of these types.
+#[cycle(check)]
+fn check_row(alloc: Global, rows: &[TypeRow], members: &Members) -> Result<(), CheckFault>
+    ensures { Answers result
+        (spec.typed_faults itself faults (types_in rows.now) (Some members.now.members)) }
+{
+    match row_of(rows, members.as_slice()) {
+        Ok(row) => check_object(alloc, row.object, members),
+        Err(code) => Err(refused_at(alloc, Key::Type, code)),
+    }
+}
+
+/// An object of one of these types.
+#[cycle(check)]
+fn check_typed(alloc: Global, rows: &[TypeRow], tree: &Tree) -> Result<(), CheckFault>
+    ensures { Answers result
+        (spec.typed_faults itself faults (types_in rows.now) (members_at (out-Tree tree.now))) }
+{
+    match tree {
+        Tree::Object(members) => check_row(alloc, rows, members),
+        Tree::Null | Tree::Bool(_) | Tree::Num(_) | Tree::Str(_) | Tree::Array(_) => {
+            Err(refused(alloc, Code::Shape(ShapeCode::NotObject)))
+        }
+    }
+}
+
+/// An object without a type.
+#[cycle(check)]
+fn check_untyped(alloc: Global, object: ObjectRow, tree: &Tree) -> Result<(), CheckFault>
+    ensures { Answers result
+        (spec.untyped_faults itself faults (object_in object) (members_at (out-Tree tree.now))) }
+{
+    match tree {
+        Tree::Object(members) => check_object(alloc, object, members),
+        Tree::Null | Tree::Bool(_) | Tree::Num(_) | Tree::Str(_) | Tree::Array(_) => {
+            Err(refused(alloc, Code::Shape(ShapeCode::NotObject)))
+        }
+    }
+}
+
+/// What stands under a name, as a kind.
+#[cycle(check)]
+fn check_named(alloc: Global, kind: Kind, name: &Text, value: &Tree) -> Result<(), CheckFault>
+    ensures { Answers result (spec.all_under (Name name.now) (faults value.now kind)) }
+{
+    match check(alloc, kind, value) {
+        Ok(()) => Ok(()),
+        Err(inside) => Err(under_key(alloc, inside, name.as_str())),
+    }
+}
+
+/// What stands under each name of an object, as a kind.
+#[cycle(check)]
+fn check_each(alloc: Global, kind: Kind, members: &Members) -> Result<(), CheckFault>
+    ensures { Answers result (spec.each_faults itself faults kind members.now.members) }
+{
+    for (name, value) in members.as_slice() {
+        check_named(alloc, kind, name, value)?;
+    }
+    Ok(())
+}
+
+/// An object under whose names stands what is of a kind.
+#[cycle(check)]
+fn check_names(alloc: Global, kind: Kind, tree: &Tree) -> Result<(), CheckFault>
+    ensures { Answers result
+        (spec.named_faults itself faults kind (members_at (out-Tree tree.now))) }
+{
+    match tree {
+        Tree::Object(members) => check_each(alloc, kind, members),
+        Tree::Null | Tree::Bool(_) | Tree::Num(_) | Tree::Str(_) | Tree::Array(_) => {
+            Err(refused(alloc, Code::Shape(ShapeCode::BadValue)))
+        }
+    }
 }
 
 #[cycle(check)]
-fn check_item(alloc: Global, place: u64, item: &Tree) -> Result<(), CheckFault>
-    ensures { Answers result (spec.all_under (Index place) (spec.schema_faults item.now)) }
+fn check_item(alloc: Global, kind: Kind, place: u64, item: &Tree) -> Result<(), CheckFault>
+    ensures { Answers result (spec.all_under (Index place) (faults item.now kind)) }
 {
-    match check_schema(alloc, item) {
+    match check(alloc, kind, item) {
         Ok(()) => Ok(()),
         Err(fault) => Err(under_item(fault, place)),
     }
 }
 
 #[cycle(check)]
-fn check_items(alloc: Global, items: &[Tree]) -> Result<(), CheckFault>
-    ensures { Answers result (spec.places_faults 0 items.now) }
+fn check_items(alloc: Global, kind: Kind, items: &[Tree]) -> Result<(), CheckFault>
+    ensures { Answers result (spec.item_faults itself faults kind 0 items.now) }
 {
     for (place, item) in items.iter().enumerate() {
-        check_item(alloc, place as u64, item)?;
+        check_item(alloc, kind, place as u64, item)?;
     }
     Ok(())
 }
 
-/// A list of schemas.
+/// A list of items of a kind.
 #[cycle(check)]
-#[tactic(auto, using(crate::proofs::CheckOpens::schemas_opens))]
-fn check_schemas(alloc: Global, tree: &Tree) -> Result<(), CheckFault>
-    ensures { Answers result (spec.schemas_faults tree.now) }
+fn check_list(alloc: Global, kind: Kind, tree: &Tree) -> Result<(), CheckFault>
+    ensures { Answers result
+        (spec.list_faults itself faults kind (items_at (out-Tree tree.now))) }
 {
     match tree {
-        Tree::Array(items) => check_items(alloc, items.as_slice()),
+        Tree::Array(items) => check_items(alloc, kind, items.as_slice()),
         Tree::Null | Tree::Bool(_) | Tree::Num(_) | Tree::Str(_) | Tree::Object(_) => {
             Err(refused(alloc, Code::Shape(ShapeCode::BadValue)))
         }
     }
 }
 
-/// A schema.
+/// The first of all that is wrong with a tree as a kind.
 #[cycle(check)]
-#[tactic(auto, using(crate::proofs::CheckOpens::schema_opens))]
-pub(crate) fn check_schema(alloc: Global, tree: &Tree) -> Result<(), CheckFault>
-    ensures { Answers result (spec.schema_faults tree.now) }
+#[tactic(auto, using(crate::proofs::CheckOpens::faults_open))]
+pub(crate) fn check(alloc: Global, kind: Kind, tree: &Tree) -> Result<(), CheckFault>
+    ensures { Answers result (faults tree.now kind) }
 {
-    match tree {
-        Tree::Object(members) => check_members(alloc, members),
-        Tree::Null | Tree::Bool(_) | Tree::Num(_) | Tree::Str(_) | Tree::Array(_) => {
-            Err(refused(alloc, Code::Shape(ShapeCode::NotObject)))
-        }
+    match kind {
+        Kind::Value(kind) => check_value(alloc, kind, tree),
+        Kind::Schema => check_typed(alloc, node_types(), tree),
+        Kind::Schemas => check_list(alloc, Kind::Schema, tree),
+        Kind::Fields(kind) => check_names(alloc, Kind::Field(kind), tree),
+        Kind::Field(kind) => check_typed(alloc, field_types(kind), tree),
+        Kind::Config => check_untyped(alloc, config(), tree),
+        Kind::NotBuilt => Err(refused(alloc, Code::NotYet)),
     }
 }

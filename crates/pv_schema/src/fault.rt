@@ -10,18 +10,19 @@ pub enum ShapeCode {
     BadValue,
 }
 
-/// Why a schema is refused at a place: its shape is wrong there, or what stands there is not built yet.
+/// Why a schema is refused at a place: its shape is wrong there, or what stands there is not built
+/// yet.
 #[derive(Clone, Copy, Debug, PartialEq, Eq)]
-pub enum Code {
+pub(crate) enum Code {
     Shape(ShapeCode),
     NotYet,
 }
 
 /// A refusal and its place.
 #[derive(Drop)]
-pub struct Refusal {
-    pub path: Loc,
-    pub code: Code,
+pub(crate) struct Refusal {
+    pub(crate) path: Loc,
+    pub(crate) code: Code,
 }
 
 /// Why a tree is no schema. Want of memory may come in place of each answer.

@@ -17,4 +17,8 @@ pub enum NodeType {
     Tuple,
     Dict,
     Nullable,
+    Default,
+    ModelFields,
+    TypedDict,
+    Model,
 }

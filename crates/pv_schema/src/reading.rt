@@ -4,8 +4,9 @@ ghost use Rattle.pv_schema.specs.Reading.{Reads, schema_of};
 ghost use Rattle.pv_schema.specs.Allowed.{AreAllowed};
 
 use crate::check_fault::CheckFault;
-use crate::checking::check_schema;
+use crate::checking::check;
 use crate::fault::{Code, SchemaFault};
+use crate::kind::Kind;
 use crate::making::make_node;
 use pv_node::{MAX_NODES, Node, Schema, count_nodes};
 use pv_text::Memory;
@@ -42,7 +43,7 @@ pub fn read_schema(alloc: Global, t: &Tree) -> Result<Schema, SchemaFault>
     ensures reads { Reads result (schema_of t.now) }
     ensures allowed { IfOk result (λ s. AreAllowed s) }
 {
-    match check_schema(alloc, t) {
+    match check(alloc, Kind::Schema, t) {
         Ok(()) => {
             let root = make_node(alloc, t)?;
             counted(alloc, root)

@@ -1,37 +1,66 @@
-//! The keys of each type of node, as a table.
+//! The types of objects and their keys, as a table.
 
 ghost use Rattle.std.specs.Prelude.{◌≡◌};
 ghost use Rattle.pv_schema.specs.Table as spec;
-ghost use Rattle.pv_schema.specs.Rows.{rows_in};
+ghost use Rattle.pv_schema.specs.Rows.{object_in, types_in};
 
+use crate::key::Key;
 use crate::kind::Kind;
 use crate::node_type::NodeType;
+use crate::row::{Fit, KeyRow, Makes, ObjectRow, Test, TypeRow};
+use pv_rules::FieldsKind;
 use pv_schema_values::ValueKind;
 
-/// A key of a node, what may stand under it, and whether it has to be there.
-#[derive(Clone, Copy)]
-pub(crate) struct Row {
-    pub(crate) key: &'static str,
-    pub(crate) kind: Kind,
-    pub(crate) required: bool,
-}
-
-macro_rules! may {
-    ($key:literal, $kind:expr) => {
-        Row {
-            key: $key,
+/// A key that has to be there, or one that may, or one that may and has no effect.
+macro_rules! row {
+    (must $key:ident, $kind:expr) => {
+        KeyRow {
+            key: Key::$key,
+            kind: $kind,
+            required: true,
+            effect: true,
+        }
+    };
+    (may $key:ident, $kind:expr) => {
+        KeyRow {
+            key: Key::$key,
             kind: $kind,
             required: false,
+            effect: true,
+        }
+    };
+    (idle $key:ident, $kind:expr) => {
+        KeyRow {
+            key: Key::$key,
+            kind: $kind,
+            required: false,
+            effect: false,
         }
     };
 }
 
-macro_rules! must {
-    ($key:literal, $kind:expr) => {
-        Row {
-            key: $key,
-            kind: $kind,
-            required: true,
+/// A type of nodes that is built, with its own keys and its tests, or one that is not.
+macro_rules! node {
+    ($name:literal, $node_type:ident, $own:expr, $tests:expr) => {
+        TypeRow {
+            name: $name,
+            makes: Makes::Node(NodeType::$node_type),
+            object: ObjectRow {
+                shared: &NODE_KEYS,
+                own: $own,
+                tests: $tests,
+            },
+        }
+    };
+    ($name:literal) => {
+        TypeRow {
+            name: $name,
+            makes: Makes::NotBuilt,
+            object: ObjectRow {
+                shared: &NODE_KEYS,
+                own: &[],
+                tests: &[],
+            },
         }
     };
 }
@@ -46,98 +75,226 @@ const COUNT: Kind = Kind::Value(ValueKind::Count);
 
 const INTEGER: Kind = Kind::Value(ValueKind::Int);
 
-const COMMON: [Row; 5] = [
-    must!("type", TEXT),
-    may!("ref", Kind::NotBuilt),
-    may!("strict", FLAG),
-    may!("serialization", Kind::NotBuilt),
-    may!("metadata", Kind::Value(ValueKind::Anything)),
+const NODE_KEYS: [KeyRow; 5] = [
+    row!(must Type, TEXT),
+    row!(may Ref, Kind::NotBuilt),
+    row!(may Strict, FLAG),
+    row!(may Serialization, Kind::NotBuilt),
+    row!(idle Metadata, Kind::Value(ValueKind::Anything)),
 ];
 
-const INT: [Row; 5] = [
-    may!("multiple_of", Kind::Value(ValueKind::AtLeastOne)),
-    may!("le", INTEGER),
-    may!("lt", INTEGER),
-    may!("ge", INTEGER),
-    may!("gt", INTEGER),
+const INT: [KeyRow; 5] = [
+    row!(may MultipleOf, Kind::Value(ValueKind::AtLeastOne)),
+    row!(may Le, INTEGER),
+    row!(may Lt, INTEGER),
+    row!(may Ge, INTEGER),
+    row!(may Gt, INTEGER),
 ];
 
-const STR: [Row; 5] = [
-    may!("min_length", COUNT),
-    may!("max_length", COUNT),
-    may!("pattern", TEXT),
-    may!("strip_whitespace", FLAG),
-    may!("regex_engine", Kind::Value(ValueKind::Engine)),
+const STR: [KeyRow; 5] = [
+    row!(may MinLength, COUNT),
+    row!(may MaxLength, COUNT),
+    row!(may Pattern, TEXT),
+    row!(may StripWhitespace, FLAG),
+    row!(idle RegexEngine, Kind::Value(ValueKind::Engine)),
 ];
 
-const BYTES: [Row; 2] = [may!("min_length", COUNT), may!("max_length", COUNT)];
+const BYTES: [KeyRow; 2] = [row!(may MinLength, COUNT), row!(may MaxLength, COUNT)];
 
-const UUID: [Row; 1] = [may!("version", Kind::Value(ValueKind::Version))];
+const UUID: [KeyRow; 1] = [row!(may Version, Kind::Value(ValueKind::Version))];
 
-const URL: [Row; 2] = [
-    may!("max_length", COUNT),
-    may!("allowed_schemes", Kind::Value(ValueKind::Texts)),
+const URL: [KeyRow; 2] = [
+    row!(may MaxLength, COUNT),
+    row!(may AllowedSchemes, Kind::Value(ValueKind::Texts)),
 ];
 
-const LITERAL: [Row; 1] = [must!("expected", Kind::Value(ValueKind::Literals))];
+const LITERAL: [KeyRow; 1] = [row!(must Expected, Kind::Value(ValueKind::Literals))];
 
-const ENUM: [Row; 3] = [
-    must!("cls", TEXT),
-    must!("members", Kind::Value(ValueKind::Members)),
-    may!("sub_type", Kind::Value(ValueKind::SubType)),
+const ENUM: [KeyRow; 3] = [
+    row!(must Cls, TEXT),
+    row!(must Members, Kind::Value(ValueKind::Members)),
+    row!(may SubType, Kind::Value(ValueKind::SubType)),
 ];
 
-const SEQUENCE: [Row; 4] = [
-    may!("items_schema", Kind::Schema),
-    may!("min_length", COUNT),
-    may!("max_length", COUNT),
-    may!("fail_fast", FALSE),
+const ENUM_TESTS: [Test; 1] = [Test {
+    key: Key::SubType,
+    other: Key::Members,
+    fit: Fit::OfSubType,
+}];
+
+const SEQUENCE: [KeyRow; 4] = [
+    row!(may ItemsSchema, Kind::Schema),
+    row!(may MinLength, COUNT),
+    row!(may MaxLength, COUNT),
+    row!(idle FailFast, FALSE),
 ];
 
-const TUPLE: [Row; 5] = [
-    must!("items_schema", Kind::Schemas),
-    may!("variadic_item_index", COUNT),
-    may!("min_length", COUNT),
-    may!("max_length", COUNT),
-    may!("fail_fast", FALSE),
+const TUPLE: [KeyRow; 5] = [
+    row!(must ItemsSchema, Kind::Schemas),
+    row!(may VariadicItemIndex, COUNT),
+    row!(may MinLength, COUNT),
+    row!(may MaxLength, COUNT),
+    row!(idle FailFast, FALSE),
 ];
 
-const DICT: [Row; 4] = [
-    may!("keys_schema", Kind::Schema),
-    may!("values_schema", Kind::Schema),
-    may!("min_length", COUNT),
-    may!("max_length", COUNT),
+const TUPLE_TESTS: [Test; 1] = [Test {
+    key: Key::VariadicItemIndex,
+    other: Key::ItemsSchema,
+    fit: Fit::PlaceInList,
+}];
+
+const DICT: [KeyRow; 4] = [
+    row!(may KeysSchema, Kind::Schema),
+    row!(may ValuesSchema, Kind::Schema),
+    row!(may MinLength, COUNT),
+    row!(may MaxLength, COUNT),
 ];
 
-const NULLABLE: [Row; 1] = [must!("schema", Kind::Schema)];
+const NULLABLE: [KeyRow; 1] = [row!(must Schema, Kind::Schema)];
 
-/// The keys that every node takes.
-pub(crate) fn common() -> &'static [Row]
-    ensures { rows_in result.now ≡ spec.common }
+const DEFAULT: [KeyRow; 5] = [
+    row!(must Schema, Kind::Schema),
+    row!(must Default, Kind::Value(ValueKind::Anything)),
+    row!(may ValidateDefault, FLAG),
+    row!(may OnError, Kind::Value(ValueKind::OnError)),
+    row!(idle CopyDefault, FLAG),
+];
+
+const MODEL_FIELDS: [KeyRow; 6] = [
+    row!(must Fields, Kind::Fields(FieldsKind::Model)),
+    row!(may ExtraBehavior, Kind::Value(ValueKind::ExtraBehavior)),
+    row!(may ExtrasSchema, Kind::Schema),
+    row!(idle ModelName, TEXT),
+    row!(idle FromAttributes, FLAG),
+    row!(idle ComputedFields, Kind::Value(ValueKind::EmptyList)),
+];
+
+const TYPED_DICT: [KeyRow; 7] = [
+    row!(must Fields, Kind::Fields(FieldsKind::TypedDict)),
+    row!(may ExtraBehavior, Kind::Value(ValueKind::ExtraBehavior)),
+    row!(may ExtrasSchema, Kind::Schema),
+    row!(idle ComputedFields, Kind::Value(ValueKind::EmptyList)),
+    row!(may Cls, TEXT),
+    row!(may Total, FLAG),
+    row!(may Config, Kind::Config),
+];
+
+const MODEL: [KeyRow; 7] = [
+    row!(must Cls, TEXT),
+    row!(must Schema, Kind::Schema),
+    row!(may RootModel, FLAG),
+    row!(may Config, Kind::Config),
+    row!(idle CustomInit, FALSE),
+    row!(idle Frozen, FLAG),
+    row!(idle RevalidateInstances, Kind::Value(ValueKind::Revalidation)),
+];
+
+static NODE_TYPES: [TypeRow; 31] = [
+    node!("any", Any, &[], &[]),
+    node!("none", None, &[], &[]),
+    node!("bool", Bool, &[], &[]),
+    node!("int", Int, &INT, &[]),
+    node!("str", Str, &STR, &[]),
+    node!("bytes", Bytes, &BYTES, &[]),
+    node!("uuid", Uuid, &UUID, &[]),
+    node!("url", Url, &URL, &[]),
+    node!("literal", Literal, &LITERAL, &[]),
+    node!("enum", Enum, &ENUM, &ENUM_TESTS),
+    node!("list", List, &SEQUENCE, &[]),
+    node!("set", Set, &SEQUENCE, &[]),
+    node!("frozenset", Frozen, &SEQUENCE, &[]),
+    node!("tuple", Tuple, &TUPLE, &TUPLE_TESTS),
+    node!("dict", Dict, &DICT, &[]),
+    node!("nullable", Nullable, &NULLABLE, &[]),
+    node!("default", Default, &DEFAULT, &[]),
+    node!("model-fields", ModelFields, &MODEL_FIELDS, &[]),
+    node!("typed-dict", TypedDict, &TYPED_DICT, &[]),
+    node!("model", Model, &MODEL, &[]),
+    node!("union"),
+    node!("tagged-union"),
+    node!("lax-or-strict"),
+    node!("json-or-python"),
+    node!("custom-error"),
+    node!("function-before"),
+    node!("function-after"),
+    node!("function-wrap"),
+    node!("function-plain"),
+    node!("definitions"),
+    node!("definition-ref"),
+];
+
+/// The types of nodes, each with its keys and its tests.
+pub fn node_types() -> &'static [TypeRow]
+    ensures { types_in result.now ≡ spec.node_types }
 {
-    &COMMON
+    &NODE_TYPES
 }
 
-/// The keys of a type besides.
-pub(crate) fn own(node_type: NodeType) -> &'static [Row]
-    ensures { rows_in result.now ≡ spec.own node_type }
+const FIELD_KEYS: [KeyRow; 6] = [
+    row!(must Type, TEXT),
+    row!(must Schema, Kind::Schema),
+    row!(may ValidationAlias, Kind::Value(ValueKind::Alias)),
+    row!(may SerializationAlias, TEXT),
+    row!(may SerializationExclude, FLAG),
+    row!(idle Metadata, Kind::Value(ValueKind::Anything)),
+];
+
+static MODEL_FIELD: [TypeRow; 1] = [TypeRow {
+    name: "model-field",
+    makes: Makes::Field,
+    object: ObjectRow {
+        shared: &FIELD_KEYS,
+        own: &[row!(idle Frozen, FLAG)],
+        tests: &[],
+    },
+}];
+
+static TYPED_DICT_FIELD: [TypeRow; 1] = [TypeRow {
+    name: "typed-dict-field",
+    makes: Makes::Field,
+    object: ObjectRow {
+        shared: &FIELD_KEYS,
+        own: &[row!(may Required, FLAG)],
+        tests: &[],
+    },
+}];
+
+/// The types of fields of a kind: one.
+pub fn field_types(kind: FieldsKind) -> &'static [TypeRow]
+    ensures { types_in result.now ≡ spec.field_types kind }
 {
-    match node_type {
-        NodeType::Any => &[],
-        NodeType::None => &[],
-        NodeType::Bool => &[],
-        NodeType::Int => &INT,
-        NodeType::Str => &STR,
-        NodeType::Bytes => &BYTES,
-        NodeType::Uuid => &UUID,
-        NodeType::Url => &URL,
-        NodeType::Literal => &LITERAL,
-        NodeType::Enum => &ENUM,
-        NodeType::List => &SEQUENCE,
-        NodeType::Set => &SEQUENCE,
-        NodeType::Frozen => &SEQUENCE,
-        NodeType::Tuple => &TUPLE,
-        NodeType::Dict => &DICT,
-        NodeType::Nullable => &NULLABLE,
+    match kind {
+        FieldsKind::Model => &MODEL_FIELD,
+        FieldsKind::TypedDict => &TYPED_DICT_FIELD,
     }
+}
+
+static CONFIG: ObjectRow = ObjectRow {
+    shared: &[],
+    own: &[
+        row!(may Title, TEXT),
+        row!(may Strict, FLAG),
+        row!(may ExtraFieldsBehavior, Kind::Value(ValueKind::ExtraBehavior)),
+        row!(may PopulateByName, FLAG),
+        row!(may ValidateByAlias, FLAG),
+        row!(may ValidateByName, FLAG),
+        row!(may SerializeByAlias, FLAG),
+        row!(may LocByAlias, FLAG),
+        row!(may ValidateDefault, FLAG),
+        row!(may StrStripWhitespace, FLAG),
+        row!(may StrMinLength, COUNT),
+        row!(may StrMaxLength, COUNT),
+    ],
+    tests: &[Test {
+        key: Key::ValidateByName,
+        other: Key::ValidateByAlias,
+        fit: Fit::NotBothFalse,
+    }],
+};
+
+/// What a config takes. It has no type.
+pub fn config() -> ObjectRow
+    ensures { object_in result ≡ spec.config }
+{
+    CONFIG
 }

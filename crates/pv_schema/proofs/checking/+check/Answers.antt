@@ -1,8 +1,11 @@
-use Rattle.pv_schema.proofs.CheckOpens.{object_answers, array_answers}
+use Rattle.std.proofs.Common.{sym, ap, ◌∙◌, subst}
+use Rattle.pv_schema.specs.Answers.{Answers}
+use Rattle.pv_schema.specs.Checking.{faults}
+use Rattle.pv_schema.proofs.CheckOpens.{value_opens}
 use Rattle.pv_schema.proofs.checking.+check.Goals as goal
 
-pub check_schema-returns-in-Object : goal.check_schema-returns-in-Object
-check_schema-returns-in-Object t c = object_answers _ _ c.in-Object.members c.in-Object.is c.check_members.ensures
-
-pub check_schemas-returns-in-Array : goal.check_schemas-returns-in-Array
-check_schemas-returns-in-Array t c = array_answers _ _ c.in-Array.items _ c.in-Array.is c.as_slice.ensures c.check_items.ensures
+pub check-returns-in-Value : goal.check-returns-in-Value
+check-returns-in-Value t c =
+    subst (Answers c.check_value.result)
+    (sym (ap (faults c.args.tree.now) c.in-Value.is ∙ value_opens c.args.tree.now c.in-Value.kind))
+    c.check_value.ensures

@@ -3,10 +3,12 @@
 ghost use Rattle.std.specs.Prelude.{◌≡◌, Some, []};
 ghost use Rattle.pv_tree.specs.declared.Step.TheVariants.{Name, Index};
 ghost use Rattle.pv_schema.specs.Checking as spec;
+ghost use Rattle.pv_schema.specs.Keys.{text};
 ghost use Rattle.pv_schema.specs.Answers.{IsUnder};
 
 use crate::check_fault::CheckFault;
 use crate::fault::{Code, Refusal};
+use crate::key::Key;
 use pv_text::{Memory, Text};
 use pv_tree::{Loc, Step};
 use std::alloc::Global;
@@ -69,8 +71,8 @@ pub(crate) fn under_item(fault: CheckFault, place: u64) -> CheckFault
 }
 
 /// A refusal at a key.
-pub(crate) fn refused_at(alloc: Global, key: &str, code: Code) -> CheckFault
-    ensures { IsUnder (Name key.now) (CheckFault.Refused (spec.refused code)) result }
+pub(crate) fn refused_at(alloc: Global, key: Key, code: Code) -> CheckFault
+    ensures { IsUnder (Name (text key)) (CheckFault.Refused (spec.refused code)) result }
 {
-    under_key(alloc, refused(alloc, code), key)
+    under_key(alloc, refused(alloc, code), key.text())
 }

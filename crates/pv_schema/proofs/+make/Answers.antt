@@ -1,0 +1,19 @@
+use Rattle.pv_schema.proofs.MakeOpens.{no_field, object_made, array_made, field_made, fields_made}
+use Rattle.pv_schema.proofs.+make.Goals as goal
+
+pub making::make_node-returns-in_ok-node-in-Object : goal.making::make_node-returns-in_ok-node-in-Object
+making::make_node-returns-in_ok-node-in-Object t c = object_made _ _ c.in-Object.members c.in-Object.is c.in_ok-node-in-Object.ensures
+
+pub making::make_nodes-returns-in_ok-nodes-in-Array : goal.making::make_nodes-returns-in_ok-nodes-in-Array
+making::make_nodes-returns-in_ok-nodes-in-Array t c = array_made _ _ c.in-Array.items _ c.in-Array.is c.as_slice.ensures c.in_ok-nodes-in-Array.ensures
+
+pub children::make_field_schema-returns-in_ok-schema-in-Object : goal.children::make_field_schema-returns-in_ok-schema-in-Object
+children::make_field_schema-returns-in_ok-schema-in-Object t c =
+    field_made _ _ c.args.kind c.in-Object.members c.in-Object.is c.in_ok-schema-in-Object.ensures
+
+pub children::make_fields_of-returns-in_ok-schemas-in-Object : goal.children::make_fields_of-returns-in_ok-schemas-in-Object
+children::make_fields_of-returns-in_ok-schemas-in-Object t c =
+    fields_made _ _ c.args.kind c.in-Object.fields c.in-Object.is c.in_ok-schemas-in-Object.ensures
+
+pub children::make_field_schema-returns-in-Null : goal.children::make_field_schema-returns-in-Null
+children::make_field_schema-returns-in-Null t c = no_field _ _ c.args.kind c.in-Null.is c.any_node.ensures
