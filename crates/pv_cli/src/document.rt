@@ -12,7 +12,7 @@ use pv_fault::{Faults, Kind, LineError, Outcome, write_faults};
 use pv_json::{ReadFault, read};
 use pv_notation::write_value;
 use pv_plan::Plan;
-use pv_text::{ByteBuf, Memory, Text};
+use pv_text::{ByteBuf, Bytes, Memory, Text};
 use pv_tree::{Loc, Tree};
 use std::alloc::Global;
 
@@ -74,25 +74,30 @@ fn answer_tree(
     alloc: Global,
     strict: Option<bool>,
     plan: &Plan,
-    tree: &Tree,
+    tree: Tree,
 ) -> Result<Answer, Memory>
-    ensures { IfOk result (λ a. a ≡ spec.of_reading strict plan.now (whole tree.now)) }
+    ensures { IfOk result (λ a. a ≡ spec.of_reading strict plan.now (whole tree)) }
 {
-    let outcome = validate(alloc, plan, strict, tree)?;
-    answer_outcome(alloc, &outcome)
+    let outcome = validate(alloc, plan, strict, &tree);
+    drop(tree);
+    answer_outcome(alloc, &outcome?)
 }
 
+/// The answer to a document's bytes. They are let go once they are read, and the tree once it is
+/// validated, so that no two of them are held for longer than they have to be.
 #[tactic(auto, unfolding(crate::specs::Documents::of_document))]
 pub(crate) fn answer_document(
     alloc: Global,
     strict: Option<bool>,
     plan: &Plan,
-    bytes: &[u8],
+    bytes: Bytes,
 ) -> Result<Answer, Memory>
-    ensures { IfOk result (λ a. a ≡ spec.of_document strict plan.now bytes.now) }
+    ensures { IfOk result (λ a. a ≡ spec.of_document strict plan.now bytes) }
 {
-    match read(alloc, bytes) {
-        Ok(tree) => answer_tree(alloc, strict, plan, &tree),
+    let document = read(alloc, bytes.as_slice());
+    drop(bytes);
+    match document {
+        Ok(tree) => answer_tree(alloc, strict, plan, tree),
         Err(ReadFault::Bad { at }) => no_json(alloc, bad_text(alloc, at)?),
         Err(ReadFault::End) => no_json(alloc, end_text(alloc)?),
         Err(ReadFault::Memory) => Err(Memory),

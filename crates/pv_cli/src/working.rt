@@ -74,7 +74,7 @@ fn answer_file<F: Shelf>(
         F.given shelf.new ≡ F.given shelf.old + size_of files name.now)) }
 {
     match load(alloc, shelf, name.as_str(), FILE_LIMIT) {
-        Ok(bytes) => answer_document(alloc, strict, plan, bytes.as_slice()),
+        Ok(bytes) => answer_document(alloc, strict, plan, bytes),
         Err(fault) => refuse_file(alloc, name, fault),
     }
 }
