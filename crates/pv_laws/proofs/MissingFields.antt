@@ -1,5 +1,5 @@
 -- Each missing field is told.
-use Rattle.std.proofs.Common.{◌≡◌, ℕ, zero, suc, ◌+◌, ◌<◌, Bool, true, false, List, [], ◌∷◌, ◌++◌, flat_map, length, Option, None, Some, slice_get, slice_index_or, Contains, refl, sym, ap, ◌∙◌, subst, append-nil, arith}
+use Rattle.std.proofs.Common.{◌≡◌, ℕ, zero, suc, ◌+◌, ◌<◌, Bool, true, false, List, [], ◌∷◌, ◌++◌, flat_map, length, Option, None, Some, slice_get, slice_index_or, Contains, refl, sym, ap, ◌∙◌, subst, arith}
 use Rattle.pv_tree.specs.declared.Tree.{Tree, out-Tree}
 use Rattle.pv_tree.specs.declared.Step.{Step}
 use Rattle.pv_tree.specs.Parts.{members_at}
@@ -10,7 +10,7 @@ use Rattle.pv_fault.specs.declared.LineError.{LineError}
 use Rattle.pv_fault.specs.declared.Outcome.{Outcome}
 use Rattle.pv_fields.specs.Paths.{paths_of, path_or_name, located, place_of, extra_of}
 use Rattle.pv_fields.specs.Finding.{follow, found, found_by, found_from, found_field, extras_in}
-use Rattle.pv_fields.specs.FieldList.{FieldAnswer, Missing, Extra, answer_errors, field_errors, extra_errors, unless_errors, fields_of}
+use Rattle.pv_fields.specs.FieldList.{Missing, answer_errors, field_errors, extra_errors, unless_errors, fields_of}
 use Rattle.pv_engine.specs.Rules.{Child}
 use Rattle.pv_engine.specs.Fields.{answer_of, child_or_none, default_or_none, answered, answers, extras_of, fields_in, fields}
 use Rattle.pv_laws.specs.Locations.{is_any_path}
