@@ -1,6 +1,5 @@
 -- Turns of the walk of the fields and the extra members of an object.
 use Rattle.std.proofs.Common.{◌≡◌, ℕ, zero, suc, ◌+◌, ◌<◌, ◌≤◌, Bool, true, false, cond, List, [], ◌∷◌, ◌++◌, map, length, take, get_or, Option, Some, None, slice_get, refl, sym, ap, subst, ◌∙◌, append-nil, append_assoc, arith}
-use Rattle.std.specs.Prelude.{Result, Ok, Err}
 use Rattle.std.specs.List.{flat_map, filter}
 use Rattle.std.specs.Option.{option_map}
 use Rattle.std.proofs.Math.Seq.{take-append_seam}
@@ -8,7 +7,6 @@ use Rattle.std.proofs.lemmas.Grind.{flat_map-append}
 use Rattle.std.proofs.lemmas.List.{take_more, take_all}
 use Rattle.std.proofs.lemmas.Option.{slice_get-map}
 use Rattle.std.proofs.lemmas.List.Elements.{filter-append}
-use Rattle.pv_text.specs.declared.Memory.{Memory}
 use Rattle.pv_tree.specs.declared.Step.{Step}
 use Rattle.pv_tree.specs.declared.Step.TheVariants.{Name}
 use Rattle.pv_tree.specs.declared.Tree.{Tree}
@@ -23,7 +21,6 @@ use Rattle.pv_fault.specs.declared.LineError.{LineError}
 use Rattle.pv_fault.specs.declared.Outcome.{Outcome}
 use Rattle.pv_fault.specs.declared.Outcome.TheVariants.{Good, Bad}
 use Rattle.pv_fault.specs.Single.{error_here}
-use Rattle.pv_fault.specs.Counts.{sum_of}
 use Rattle.pv_fault.specs.Under.{at_path, all_at_path, all_under, outcome_under}
 use Rattle.pv_collect.specs.Gathering as gathering
 use Rattle.pv_collect.specs.Kept.{good_of}
@@ -35,7 +32,7 @@ use Rattle.pv_fields.specs.Kept.{KeptParts, given_kept, default_kept, extra_kept
 use Rattle.pv_fields.specs.Paths.{front_of, place_of}
 use Rattle.pv_fields.proofs.Parts.{field_errors_more, extra_errors_more, given_more, defaulted_more, missing_more, absent_more, extra_more, forbidden_more, finished_all, failed_all}
 use Rattle.pv_engine.specs.declared.out.Out.{Out}
-use Rattle.pv_engine.specs.Walks.{Adds, Walked, Walks}
+use Rattle.pv_engine.specs.Walks.{Adds, Walked}
 use Rattle.pv_engine.specs.Rules.{Child}
 use Rattle.pv_engine.specs.Fields.{answer_of, unfound, answered, answers, extra_child, extra_by}
 use Rattle.pv_engine.specs.GoingFields.{WalkedAt, GoingFields}

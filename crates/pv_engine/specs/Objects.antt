@@ -1,5 +1,5 @@
 -- The objects whose fields a walk reads, by the records of its scene.
-use Rattle.std.specs.Prelude.{◌≡◌, ℕ, List, [], ◌∷◌, ◌++◌, length, map, slice_get, Option}
+use Rattle.std.specs.Prelude.{◌≡◌, ℕ, List, length, map, slice_get, Option}
 use Rattle.pv_tree.specs.declared.Tree.{Tree}
 use Rattle.pv_rules.specs.declared.FieldRule.{FieldRule}
 use Rattle.pv_fault.specs.declared.Outcome.{Outcome}

@@ -118,6 +118,7 @@ impl<
     }
 
     /// A default. Where its child fails and the default stands in, the errors of the child are taken back.
+    #[inline(never)]
     #[tactic(auto, unfolding(crate::specs::Wrapping::default))]
     pub(crate) fn default(
         &self,

@@ -88,6 +88,7 @@ impl<
         }
     }
 
+    #[inline(never)]
     #[tactic(auto, unfolding(crate::specs::Wrapping::model))]
     pub(crate) fn model(
         &self,

@@ -1,5 +1,5 @@
 -- What sets and dicts keep, value by value.
-use Rattle.std.proofs.Common.{◌≡◌, ℕ, zero, suc, ◌<◌, Bool, true, false, ◌||◌, cond, List, [], ◌∷◌, ◌++◌, map, length, slice_index_or, refl, sym, subst, ◌∙◌, arith}
+use Rattle.std.proofs.Common.{◌≡◌, ℕ, zero, suc, ◌<◌, Bool, true, false, cond, List, [], ◌∷◌, ◌++◌, map, length, slice_index_or, refl, subst, ◌∙◌, arith}
 use Rattle.std.specs.List.{AllByRecursion, Contains, list_any}
 use Rattle.pv_tree.specs.declared.Value.{Value}
 use Rattle.pv_tree.specs.declared.Value.TheVariants as value

@@ -4,3 +4,4 @@ pub mod LocatedFields
 pub mod Locating
 pub mod Keeping
 pub mod GoodPatterns
+pub mod MissingFields

@@ -1,5 +1,5 @@
 -- The errors of fields and of extra members, seen from the whole object.
-use Rattle.std.proofs.Common.{◌≡◌, ℕ, zero, suc, ◌+◌, ◌<◌, inl, inr, Bool, true, false, ◌&&◌, cond, List, [], ◌∷◌, ◌++◌, map, flat_map, length, get_or, Option, None, Some, slice_get, Contains, refl, sym, ap, ◌∙◌, subst, append-nil, arith}
+use Rattle.std.proofs.Common.{◌≡◌, ℕ, zero, suc, ◌+◌, inl, inr, Bool, true, false, ◌&&◌, cond, List, [], ◌∷◌, flat_map, length, Option, None, Some, slice_get, Contains, refl, sym, ap, ◌∙◌, subst, append-nil, arith}
 use Rattle.std.proofs.lemmas.Grind.{flat_map-append}
 use Rattle.std.proofs.lemmas.List.Elements.{All-contains_itself, recursion_from_All}
 use Rattle.std.proofs.lemmas.Slice.Eq.{bytes_eq-Decides}
@@ -23,14 +23,14 @@ use Rattle.pv_fault.specs.declared.Kind.TheVariants as kind
 use Rattle.pv_fault.specs.declared.LineError.{LineError}
 use Rattle.pv_fault.specs.declared.Outcome.{Outcome}
 use Rattle.pv_fault.specs.declared.Outcome.TheVariants.{Good, Bad}
-use Rattle.pv_fault.specs.Single.{error_here, one_error}
+use Rattle.pv_fault.specs.Single.{error_here}
 use Rattle.pv_fault.specs.Under.{under, all_under, at_path, all_at_path}
 use Rattle.pv_fields.specs.Paths.{paths_of, path_or_name, located, front_of, place_of, extra_of}
-use Rattle.pv_fields.specs.Finding.{part_at, follow, found, found_by, found_from, found_field, is_extra, taken_paths, members_or_none, members_in, extras_in}
-use Rattle.pv_fields.specs.FieldList.{FieldAnswer, Given, Defaulted, Missing, Absent, Answered, Extra, errors_of, answer_errors, field_errors, extra_errors, all_errors, unless_errors, fields_of}
-use Rattle.pv_engine.specs.Rules.{Child, no_child}
-use Rattle.pv_engine.specs.Fields.{plainly, unfound, answer_of, child_or_none, default_or_none, answered, answers, extra_child, extra_by, extras_of, object_error, fields_in, fields}
-use Rattle.pv_laws.specs.Located.{IsPart, IsUnfound, IsLocated, IsOutcomeOf}
+use Rattle.pv_fields.specs.Finding.{part_at, follow, found, found_by, found_from, found_field, is_extra, taken_paths, members_or_none, extras_in}
+use Rattle.pv_fields.specs.FieldList.{Given, errors_of, answer_errors, field_errors, extra_errors, all_errors, unless_errors, fields_of}
+use Rattle.pv_engine.specs.Rules.{Child}
+use Rattle.pv_engine.specs.Fields.{unfound, answer_of, child_or_none, default_or_none, answered, answers, extra_child, extra_by, extras_of, object_error, fields_in, fields}
+use Rattle.pv_laws.specs.Located.{IsPart, IsLocated, IsOutcomeOf}
 use Rattle.pv_laws.specs.Locations.{is_any_path, keeps_fields}
 use Rattle.pv_laws.proofs.Each.{each_append, each_map, each_more, found_is}
 use Rattle.pv_laws.proofs.LocatedParts.{IsAt, Locates, here}

@@ -11,7 +11,6 @@ use Rattle.pv_tree.specs.declared.Tree.TheVariants as tree
 use Rattle.pv_tree.specs.declared.Tree.TheVariants.{rolls-Str}
 use Rattle.pv_tree.specs.declared.Tree.TheOpen.{Tree-F}
 use Rattle.pv_rules.specs.declared.Collection.{Collection}
-use Rattle.pv_rules.specs.declared.GatherRule.{GatherRule}
 use Rattle.pv_fault.specs.declared.Kind.{Kind}
 use Rattle.pv_fault.specs.declared.LineError.{LineError}
 use Rattle.pv_fault.specs.declared.Outcome.{Outcome}

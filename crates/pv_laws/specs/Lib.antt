@@ -1,4 +1,5 @@
 pub mod Located
 pub mod Locations
+pub mod MissingFields
 pub mod Kept
 pub mod Patterns

@@ -1,4 +1,4 @@
-use Rattle.std.proofs.Common.{List, ℕ, map, sym, ap, ◌∙◌, arith}
+use Rattle.std.proofs.Common.{List, ℕ, map, ap, ◌∙◌, arith}
 use Rattle.std.specs.Prelude.{Bool}
 use Rattle.pv_tree.specs.declared.Tree.{Tree}
 use Rattle.pv_fields.specs.Finding.{is_extra, taken_paths, members_or_none}

@@ -1,4 +1,4 @@
-use Rattle.std.proofs.Common.{slice_get, sym, ap, ◌∙◌}
+use Rattle.std.proofs.Common.{slice_get, ap, ◌∙◌}
 use Rattle.pv_fields.specs.Finding.{found_field}
 use Rattle.pv_fields.specs.Paths.{front_of}
 use Rattle.pv_fields.specs.Planned.{hit}
