@@ -45,4 +45,5 @@ MakesOneNode row =
 abbrev pub MakesOneField : FieldsKind → TypeRow → Type 0
 MakesOneField k row =
     (ms ns : Named) (total : Option Bool) (name : List ℕ) → Agree row.object ms ns
-    → (rule_of k total name ms ≡ rule_of k total name ns) × (schema_of_field ms ≡ schema_of_field ns)
+    → (rule_of k total name ms ≡ rule_of k total name ns)
+    × (schema_of_field ms ≡ schema_of_field ns)
