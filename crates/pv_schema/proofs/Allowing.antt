@@ -22,7 +22,7 @@ use Rattle.pv_schema.specs.Fields.{Field}
 use Rattle.pv_schema.specs.Configs.{settings}
 use Rattle.pv_schema.specs.Written.{or_empty}
 use Rattle.pv_schema.specs.Answers.{first}
-use Rattle.pv_schema.specs.Reading.{schema_of, schema_by, counted, Reads}
+use Rattle.pv_schema.specs.Reading.{NoSchema, schema_of, schema_by, counted, Reads}
 use Rattle.pv_schema.specs.Allowed.{IsAllowed, AreAllowed, AreSettings}
 use Rattle.pv_schema.specs.declared.fault.Code.{Code}
 use Rattle.pv_schema.specs.declared.fault.Refusal.{Refusal}
@@ -205,7 +205,7 @@ by_level t h k e = subst (AreAllowedAs k) (sym (made_opens t k)) (level_is (out-
 sound : (t : Tree) → IsSound t
 sound = ind-Tree IsSound (λ x y is. by_level (roll-Tree x) (subst AreInside (is ∙ sym (out-roll-Tree x)) (held y)))
 
-few_enough : (b : Bool) (n root : Node) (fault : SchemaFault) → (if b then Ok n else Err fault) ≡ Ok root → n ≡ root
+few_enough : (b : Bool) (n root : Node) (fault : NoSchema) → (if b then Ok n else Err fault) ≡ Ok root → n ≡ root
 few_enough true n root fault e = cc
 few_enough false n root fault e = cc
 
