@@ -8,11 +8,10 @@ use Rattle.pv_notation.specs.Strings.{quoted}
 use Rattle.pv_json_grammar.specs.Documents.{Document, whole, bad}
 use Rattle.pv_json_grammar.specs.Documents as document
 use Rattle.pv_node.specs.declared.Node.{Node}
-use Rattle.pv_schema.specs.declared.SchemaFault.{SchemaFault}
-use Rattle.pv_schema.specs.declared.SchemaFault.TheVariants as fault
 use Rattle.pv_schema.specs.declared.ShapeCode.{ShapeCode}
 use Rattle.pv_schema.specs.declared.ShapeCode.TheVariants.{NotObject, MissingKey, UnknownType, UnknownKey, BadValue}
-use Rattle.pv_schema.specs.Reading.{schema_of}
+use Rattle.pv_schema.specs.Reading as reading
+use Rattle.pv_schema.specs.Reading.{NoSchema, schema_of}
 use Rattle.pv_plan.specs.BadPatterns as plan
 use Rattle.pv_cli.specs.Faults.{schema_bad_text, schema_end_text}
 
@@ -52,14 +51,12 @@ abbrev pub file_of_schema : Node → Option BuildRefusal → SchemaFile
 file_of_schema schema None = served schema
 file_of_schema schema (Some r) = refused_for (not_built r)
 
--- what is read of a schema. Reading has no want of memory; the type of its faults is that of the
--- code, which has.
-abbrev pub file_of_shape : Result Node SchemaFault → SchemaFile
+-- by what is read of it
+abbrev pub file_of_shape : Result Node NoSchema → SchemaFile
 file_of_shape (Ok schema) = file_of_schema schema (builds schema)
-file_of_shape (Err (fault.Shape path code)) = refused_for (misshapen code path)
-file_of_shape (Err (fault.NotYet path)) = not_yet
-file_of_shape (Err (fault.TooManyNodes count)) = refused_for too_many_nodes
-file_of_shape (Err fault.Memory) = not_yet
+file_of_shape (Err (reading.shape path code)) = refused_for (misshapen code path)
+file_of_shape (Err (reading.not_yet path)) = not_yet
+file_of_shape (Err (reading.too_many count)) = refused_for too_many_nodes
 
 -- by what the file is as a document
 abbrev pub schema_file : Document → SchemaFile

@@ -3,7 +3,6 @@
 
 mod answer;
 mod document;
-mod laws;
 mod lines;
 mod running;
 mod schema;
@@ -11,7 +10,6 @@ mod status;
 mod working;
 
 pub use answer::Answer;
-pub use laws::schemas_want_no_memory;
 pub use pv_command::Words;
 pub use running::run;
 pub use status::Status;
