@@ -20,4 +20,6 @@ mod runs;
 #[cfg(test)]
 mod schemas;
 #[cfg(test)]
+mod tables;
+#[cfg(test)]
 mod values;

@@ -1,16 +1,32 @@
 use crate::fixtures::{cut, tree};
 use ValueKind::{
-    Anything, AtLeastOne, Count, Engine, False, Flag, Int, Literals, Members, SubType, Text, Texts,
-    Version,
+    Alias, Anything, AtLeastOne, Count, EmptyList, Engine, ExtraBehavior, False, Flag, Int,
+    Literals, Members, OnError, Revalidation, SubType, Text, Texts, Version,
 };
 use pv_rules::Literal;
 use pv_schema_values::{ValueKind, is_value, members_of};
 use std::alloc::Global;
 use std::process::Abort;
 
-const KINDS: [ValueKind; 13] = [
-    Anything, Text, Flag, False, Count, Int, AtLeastOne, Version, Engine, SubType, Texts, Literals,
+const KINDS: [ValueKind; 18] = [
+    Anything,
+    Text,
+    Flag,
+    False,
+    Count,
+    Int,
+    AtLeastOne,
+    Version,
+    Engine,
+    SubType,
+    Texts,
+    Literals,
     Members,
+    ExtraBehavior,
+    OnError,
+    Revalidation,
+    EmptyList,
+    Alias,
 ];
 
 /// JSON, and the kinds of values that it may stand for.
@@ -32,32 +48,43 @@ false Anything Flag False
 -170141183460469231731687303715884105728 Anything Int
 1.0 Anything
 1e0 Anything
-"" Anything Text
-"int" Anything Text SubType
-"str" Anything Text SubType
-"float" Anything Text
-"Int" Anything Text
-"rust-regex" Anything Text Engine
-"python-re" Anything Text
-[] Anything
-["a","a"] Anything Texts Literals
+"" Anything Text Alias
+"int" Anything Text SubType Alias
+"str" Anything Text SubType Alias
+"float" Anything Text Alias
+"Int" Anything Text Alias
+"rust-regex" Anything Text Engine Alias
+"python-re" Anything Text Alias
+[] Anything EmptyList
+["a","a"] Anything Texts Literals Alias
 [null,true,1,"a"] Anything Literals
 ["a",0.5] Anything
 [{}] Anything
 [1,{}] Anything
-[["A",1],["B",2]] Anything Members
-[["A",1],["B","1"]] Anything Members
-[["A","B"],["B","A"]] Anything Members
-[["A",1],["A",2]] Anything
-[["A",0],["B",-0]] Anything
-[["A","x"],["B","x"]] Anything
+[["A",1],["B",2]] Anything Members Alias
+[["A",1],["B","1"]] Anything Members Alias
+[["A","B"],["B","A"]] Anything Members Alias
+[["A",1],["A",2]] Anything Alias
+[["A",0],["B",-0]] Anything Alias
+[["A","x"],["B","x"]] Anything Alias
 [["A",true]] Anything
 [["A",null]] Anything
 [["A",2.0]] Anything
 [[1,1]] Anything
 [[]] Anything
-[["A"]] Anything
-[["A",1,1]] Anything"#;
+[["A"]] Anything Alias
+[["A",1,1]] Anything Alias
+"ignore" Anything Text ExtraBehavior Alias
+"allow" Anything Text ExtraBehavior Alias
+"forbid" Anything Text ExtraBehavior Alias
+"raise" Anything Text OnError Alias
+"default" Anything Text OnError Alias
+"always" Anything Text Revalidation Alias
+"never" Anything Text Revalidation Alias
+"subclass-instances" Anything Text Revalidation Alias
+["a",4294967295] Anything Literals Alias
+["a",4294967296] Anything Literals
+[["a"],"b"] Anything"#;
 
 fn has_word(words: &str, name: &str) -> bool {
     for word in words.split(' ') {
