@@ -1,10 +1,10 @@
 //! Shipped functions, and the registry that finds them by their names.
 
 use crate::fixtures::{compact, notation, text, tree, value};
-use pv_func::shipped::{Even, Positive, SplitCommas, Strip, Unhex, Upper};
 use pv_func::{
     AddFault, AfterFn, BeforeFn, FuncKind, Made, Objects, PlainFn, Raise, Raw, Registry,
 };
+use pv_shipped::{Even, Pair, Positive, SplitCommas, Strip, Unhex, Upper};
 use pv_text::ByteBuf;
 use std::alloc::Global;
 use std::process::Abort;
@@ -108,7 +108,7 @@ fn shipped_functions_do_what_their_rows_say(rt: HostRuntime) {
 #[test]
 fn a_registry_finds_functions_by_their_names(rt: HostRuntime) {
     let alloc = rt.alloc();
-    let mut all: Registry<Strip, Even, Upper> = Registry::new(alloc);
+    let mut all: Registry<Strip, Even, Upper, Pair> = Registry::new(alloc);
     let Ok(strip) = all.add_before(text(&rt, alloc, "strip"), Strip) else {
         panic!(rt; "refused");
     };

@@ -1,5 +1,5 @@
-//! Tests of the crates below validation: texts, numbers, trees, notations, JSON, errors, files and
-//! the equality of values. They stand apart, so that no crate is proved a second time for them.
+//! Tests of the crates below validation: texts, numbers, trees, notations, JSON, errors, files,
+//! graphs and the equality of values. They stand apart, so that no crate is proved a second time for them.
 #![tactic(auto)]
 
 #[cfg(test)]
@@ -15,7 +15,11 @@ mod fixtures;
 #[cfg(test)]
 mod functions;
 #[cfg(test)]
+mod graph;
+#[cfg(test)]
 mod json;
+#[cfg(test)]
+mod lines;
 #[cfg(test)]
 mod machine;
 #[cfg(test)]

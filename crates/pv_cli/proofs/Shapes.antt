@@ -1,5 +1,5 @@
 -- What an answer to a file's content has on its streams.
-use Rattle.std.proofs.Common.{◌≡◌, ℕ, Bool, true, List, refl, subst, Option}
+use Rattle.std.proofs.Common.{◌≡◌, ℕ, Bool, true, List, length, refl, subst, Option}
 use Rattle.std.specs.Prelude.{Err}
 use Rattle.pv_json_grammar.specs.Documents.{Document, whole, bad, ends_early}
 use Rattle.pv_json_grammar.specs.Documents as documents
@@ -7,12 +7,17 @@ use Rattle.pv_notation.specs.Notation.{notation}
 use Rattle.pv_fault.specs.Errors.{errors_text}
 use Rattle.pv_fault.specs.declared.Outcome.{Outcome}
 use Rattle.pv_fault.specs.declared.Outcome.TheVariants.{Good, Bad}
+use Rattle.pv_func.specs.Functions.{Named, Meaning}
 use Rattle.pv_node.specs.declared.Node.{Node}
+use Rattle.pv_node.specs.Preorder.{node_count}
+use Rattle.pv_references.specs.Names.{names_of}
+use Rattle.pv_references.specs.Cycles.{chain}
 use Rattle.pv_engine.specs.Meaning.{full_depth, meaning}
 use Rattle.pv_command.specs.declared.Asked.{Asked}
 use Rattle.pv_cli.specs.Faults.{bad_text, end_text}
 use Rattle.pv_cli.specs.SchemaFiles.{SchemaRefusal, SchemaFile, served, refused_for, not_yet, refusal_text}
 use Rattle.pv_cli.specs.Answering.{schema_or_answer}
+use Rattle.pv_cli.specs.Checks.{counts_text, checked}
 use Rattle.pv_cli.specs.Lines.{schema_refused, IsLineOf, IsOutOf}
 use Rattle.pv_cli.specs.Running.{is_printed}
 use Rattle.pv_cli.specs.Documents.{refused, json_errors, printed, not_built, of_outcome, of_reading, of_document}
@@ -40,14 +45,17 @@ outcome : (o : Outcome) → IsSettled (of_outcome o)
 outcome (Good v grade fields) = valid (notation v)
 outcome (Bad errors) = invalid (errors_text errors)
 
-reading : (strict : Option Bool) (n : Node) (read : Document) → IsSettled (of_reading strict n read)
-reading strict n (whole t) = outcome (meaning strict full_depth n t)
-reading strict n (bad at) = invalid (json_errors (bad_text at))
-reading strict n ends_early = invalid (json_errors end_text)
+reading : (functions : Named Meaning) (strict : Option Bool) (n : Node) (read : Document) → IsSettled (of_reading functions strict n read)
+reading functions strict n (whole t) = outcome (meaning (record { strict = strict; functions = functions }) full_depth n t)
+reading functions strict n (bad at) = invalid (json_errors (bad_text at))
+reading functions strict n ends_early = invalid (json_errors end_text)
 
-pub document_settled : (strict : Option Bool) (n : Node) (bs : List ℕ) → IsSettled (of_document strict n bs)
+pub document_settled : (functions : Named Meaning) (strict : Option Bool) (n : Node) (bs : List ℕ) → IsSettled (of_document functions strict n bs)
 unfolding of_document
-document_settled strict n bs = reading strict n (documents.reading 128 bs)
+document_settled functions strict n bs = reading functions strict n (documents.reading 128 bs)
+
+pub checked_settled : (n : Node) → IsSettled (checked n)
+checked_settled n = valid (counts_text (node_count n) (length (names_of n)) (chain n))
 
 -- ---- a schema file that decides the answer
 

@@ -1,9 +1,10 @@
--- The answer to words and files, which the first of the steps decides that refuses: the words, the
--- schema file, its JSON, its shape, its number of nodes, its building, the document file, and what
--- the schema means for it.
+-- The answer to words and files by the functions that there are, which the first of the steps
+-- decides that refuses: the words, the schema file, its JSON, its shape, its number of nodes, its
+-- building, the document file, and what the schema means for it.
 use Rattle.std.specs.Prelude.{ℕ, Bool, nat_le, if◌then◌else◌, List, length, Option, Some, None, Result, Ok, Err}
 use Rattle.pv_edge.specs.Files.{file}
 use Rattle.pv_json_grammar.specs.Documents.{reading}
+use Rattle.pv_func.specs.Functions.{Named, Meaning}
 use Rattle.pv_node.specs.declared.Node.{Node}
 use Rattle.pv_command.specs.declared.Asked.{Asked}
 use Rattle.pv_command.specs.declared.Asked.TheVariants.{Run, Refused, NotBuilt}
@@ -14,6 +15,7 @@ use Rattle.pv_cli.specs.Asking.{file_limit}
 use Rattle.pv_cli.specs.SchemaFiles.{SchemaFile, served, refused_for, not_yet, schema_file, refusal_text}
 use Rattle.pv_cli.specs.Lines.{read_failed, too_large, schema_refused, words_refused}
 use Rattle.pv_cli.specs.Documents.{refused, not_built, of_document}
+use Rattle.pv_cli.specs.Checks.{checked}
 use Rattle.pv_cli.specs.declared.answer.Answer.{Answer}
 use Rattle.pv_cli.specs.declared.status.Status.TheVariants as status
 
@@ -52,31 +54,32 @@ of_schema next (Ok schema) = next schema
 of_schema next (Err a) = answered a
 
 -- a schema file, and what its schema leads to
-abbrev pub reads_schema : List ℕ → (Node → Reads) → Reads
-reads_schema name next =
+abbrev pub reads_schema : Named Meaning → List ℕ → (Node → Reads) → Reads
+reads_schema functions name next =
     a_file name file_limit
-    (λ bytes. of_schema next (schema_or_answer (schema_file (reading 128 bytes))))
+    (λ bytes. of_schema next (schema_or_answer (schema_file functions (reading 128 bytes))))
 
 -- a document file under a schema
-abbrev pub reads_document : Option Bool → List ℕ → Node → Reads
-reads_document strict name schema =
-    a_file name file_limit (λ bytes. answered (of_document strict schema bytes))
+abbrev pub reads_document : Named Meaning → Option Bool → List ℕ → Node → Reads
+reads_document functions strict name schema =
+    a_file name file_limit (λ bytes. answered (of_document functions strict schema bytes))
 
 -- what each command reads
-abbrev pub reads_of : Command → Reads
-reads_of (Validate strict schema document) = reads_schema schema (reads_document strict document)
-reads_of (Dump options schema document) = answered not_built
-reads_of (Lines strict schema document) = answered not_built
-reads_of (Check schema) = answered not_built
-reads_of (JsonSchema schema) = answered not_built
-reads_of (Workload seed count) = answered not_built
+abbrev pub reads_of : Named Meaning → Command → Reads
+reads_of functions (Validate strict schema document) =
+    reads_schema functions schema (reads_document functions strict document)
+reads_of functions (Dump options schema document) = answered not_built
+reads_of functions (Lines strict schema document) = answered not_built
+reads_of functions (Check schema) = reads_schema functions schema (λ n. answered (checked n))
+reads_of functions (JsonSchema schema) = answered not_built
+reads_of functions (Workload seed count) = answered not_built
 
 -- what is read by what the words ask for
-abbrev pub reads_for : Asked → Reads
-reads_for (Run c) = reads_of c
-reads_for (Refused at) = answered (refused (words_refused at) status.WordsRefused)
-reads_for NotBuilt = answered not_built
+abbrev pub reads_for : Named Meaning → Asked → Reads
+reads_for functions (Run c) = reads_of functions c
+reads_for functions (Refused at) = answered (refused (words_refused at) status.WordsRefused)
+reads_for functions NotBuilt = answered not_built
 
 -- the answer to the words
-unfoldable pub answer : List (List ℕ) → List (List ℕ × List ℕ) → Answer
-answer words held = answer_of held (reads_for (asked words))
+unfoldable pub answer : List (List ℕ) → Named Meaning → List (List ℕ × List ℕ) → Answer
+answer words functions held = answer_of held (reads_for functions (asked words))

@@ -1,4 +1,4 @@
--- What is answered to a document under a schema.
+-- What is answered to a document under a schema, by the functions that there are.
 use Rattle.std.specs.Prelude.{Bool, ℕ, List, [], ◌∷◌, codes, Option}
 use Rattle.pv_tree.specs.declared.Tree.{Tree}
 use Rattle.pv_tree.specs.declared.Tree.TheVariants as tree
@@ -7,6 +7,7 @@ use Rattle.pv_fault.specs.declared.Kind.{Kind}
 use Rattle.pv_fault.specs.declared.Kind.TheVariants as kind
 use Rattle.pv_fault.specs.declared.Outcome.{Outcome}
 use Rattle.pv_fault.specs.declared.Outcome.TheVariants.{Good, Bad}
+use Rattle.pv_func.specs.Functions.{Named, Meaning}
 use Rattle.pv_node.specs.declared.Node.{Node}
 use Rattle.pv_notation.specs.Notation.{notation}
 use Rattle.pv_json_grammar.specs.Documents.{Document, whole, bad, ends_early, reading}
@@ -43,11 +44,15 @@ of_outcome (Good v grade fields) = printed (notation v) status.Valid
 of_outcome (Bad errors) = printed (errors_text errors) status.Invalid
 
 -- of what the input is as a document
-abbrev pub of_reading : Option Bool → Node → Document → Answer
-of_reading strict schema (whole t) = of_outcome (meaning strict full_depth schema t)
-of_reading strict schema (bad at) = printed (json_errors (bad_text at)) status.Invalid
-of_reading strict schema ends_early = printed (json_errors end_text) status.Invalid
+abbrev pub of_reading : Named Meaning → Option Bool → Node → Document → Answer
+of_reading functions strict schema (whole t) =
+    of_outcome
+    (meaning (record { strict = strict; functions = functions }) full_depth schema t)
+of_reading functions strict schema (bad at) =
+    printed (json_errors (bad_text at)) status.Invalid
+of_reading functions strict schema ends_early = printed (json_errors end_text) status.Invalid
 
 -- of the bytes of a document
-unfoldable pub of_document : Option Bool → Node → List ℕ → Answer
-of_document strict schema bytes = of_reading strict schema (reading 128 bytes)
+unfoldable pub of_document : Named Meaning → Option Bool → Node → List ℕ → Answer
+of_document functions strict schema bytes =
+    of_reading functions strict schema (reading 128 bytes)

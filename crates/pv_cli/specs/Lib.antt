@@ -4,6 +4,7 @@ pub mod Faults
 pub mod SchemaFiles
 pub mod Lines
 pub mod Documents
+pub mod Checks
 pub mod Answering
 pub mod Running
 pub mod Steps

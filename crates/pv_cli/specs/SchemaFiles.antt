@@ -1,4 +1,4 @@
--- What a schema file is: a schema that is served, or why it is not.
+-- What a schema file is by the functions that there are: a schema that is served, or why it is not.
 use Rattle.std.specs.Prelude.{ℕ, List, ◌++◌, codes, map, Option, Some, None, Result, Ok, Err}
 use Rattle.std.specs.Option.{option_map}
 use Rattle.pv_tree.specs.declared.Step.{Step}
@@ -7,12 +7,14 @@ use Rattle.pv_notation.specs.Locations.{loc_text}
 use Rattle.pv_notation.specs.Strings.{quoted}
 use Rattle.pv_json_grammar.specs.Documents.{Document, whole, bad}
 use Rattle.pv_json_grammar.specs.Documents as document
+use Rattle.pv_func.specs.Functions.{Named, Meaning}
 use Rattle.pv_node.specs.declared.Node.{Node}
-use Rattle.pv_schema.specs.declared.ShapeCode.{ShapeCode}
-use Rattle.pv_schema.specs.declared.ShapeCode.TheVariants.{NotObject, MissingKey, UnknownType, UnknownKey, BadValue}
+use Rattle.pv_schema_check.specs.declared.ShapeCode.{ShapeCode}
+use Rattle.pv_schema_check.specs.declared.ShapeCode.TheVariants.{NotObject, MissingKey, UnknownType, UnknownKey, BadValue}
 use Rattle.pv_schema.specs.Reading as reading
 use Rattle.pv_schema.specs.Reading.{NoSchema, schema_of}
-use Rattle.pv_plan.specs.BadPatterns as plan
+use Rattle.pv_plan.specs.Faults as plan
+use Rattle.pv_plan.specs.Faults.{NoPlan, no_plan}
 use Rattle.pv_cli.specs.Faults.{schema_bad_text, schema_end_text}
 
 -- why a schema is not built
@@ -42,9 +44,18 @@ pub data SchemaFile : Type 0 where
 
 -- ---- which of them
 
+-- why a schema is not built, by why it has no plan
+abbrev pub refusal_of : NoPlan → BuildRefusal
+refusal_of (plan.duplicate_ref name) = duplicate_ref name
+refusal_of (plan.undefined_ref name) = undefined_ref name
+refusal_of (plan.empty_cycle names) = empty_cycle names
+refusal_of (plan.unknown_function name) = unknown_function name
+refusal_of (plan.wrong_kind name) = wrong_kind_of_function name
+refusal_of (plan.bad_pattern_at path) = bad_pattern path
+
 -- why a schema is not built, where it is not
-abbrev pub builds : Node → Option BuildRefusal
-builds schema = option_map (λ path. bad_pattern path) (plan.bad_pattern schema)
+abbrev pub builds : Named Meaning → Node → Option BuildRefusal
+builds functions schema = option_map refusal_of (no_plan functions schema)
 
 -- a schema, by why it is not built
 abbrev pub file_of_schema : Node → Option BuildRefusal → SchemaFile
@@ -52,17 +63,17 @@ file_of_schema schema None = served schema
 file_of_schema schema (Some r) = refused_for (not_built r)
 
 -- by what is read of it
-abbrev pub file_of_shape : Result Node NoSchema → SchemaFile
-file_of_shape (Ok schema) = file_of_schema schema (builds schema)
-file_of_shape (Err (reading.shape path code)) = refused_for (misshapen code path)
-file_of_shape (Err (reading.not_yet path)) = not_yet
-file_of_shape (Err (reading.too_many count)) = refused_for too_many_nodes
+abbrev pub file_of_shape : Named Meaning → Result Node NoSchema → SchemaFile
+file_of_shape functions (Ok schema) = file_of_schema schema (builds functions schema)
+file_of_shape functions (Err (reading.shape path code)) = refused_for (misshapen code path)
+file_of_shape functions (Err (reading.not_yet path)) = not_yet
+file_of_shape functions (Err (reading.too_many count)) = refused_for too_many_nodes
 
 -- by what the file is as a document
-abbrev pub schema_file : Document → SchemaFile
-schema_file (whole t) = file_of_shape (schema_of t)
-schema_file (bad at) = refused_for (not_json at)
-schema_file document.ends_early = refused_for ends_early
+abbrev pub schema_file : Named Meaning → Document → SchemaFile
+schema_file functions (whole t) = file_of_shape functions (schema_of t)
+schema_file functions (bad at) = refused_for (not_json at)
+schema_file functions document.ends_early = refused_for ends_early
 
 -- ---- their texts
 

@@ -9,6 +9,7 @@ use crate::answer::Answer;
 use crate::status::Status;
 use pv_engine::validate;
 use pv_fault::{Faults, Kind, LineError, Outcome, write_faults};
+use pv_func::Objects;
 use pv_json::{ReadFault, read};
 use pv_notation::write_value;
 use pv_plan::Plan;
@@ -70,15 +71,17 @@ fn answer_outcome(alloc: Global, outcome: &Outcome) -> Result<Answer, Memory>
 }
 
 /// The answer to a document that was read.
-fn answer_tree(
+fn answer_tree<R: Objects>(
     alloc: Global,
     strict: Option<bool>,
     plan: &Plan,
     tree: Tree,
+    registry: &R,
 ) -> Result<Answer, Memory>
-    ensures { IfOk result (λ a. a ≡ spec.of_reading strict plan.now (whole tree)) }
+    ensures { IfOk result (λ a. a ≡
+        spec.of_reading (R.functions registry.now) strict plan.now (whole tree)) }
 {
-    let outcome = validate(alloc, plan, strict, &tree);
+    let outcome = validate(alloc, plan, registry, strict, &tree);
     drop(tree);
     answer_outcome(alloc, &outcome?)
 }
@@ -86,18 +89,20 @@ fn answer_tree(
 /// The answer to a document's bytes. They are let go once they are read, and the tree once it is
 /// validated, so that no two of them are held for longer than they have to be.
 #[tactic(auto, unfolding(crate::specs::Documents::of_document))]
-pub(crate) fn answer_document(
+pub(crate) fn answer_document<R: Objects>(
     alloc: Global,
     strict: Option<bool>,
     plan: &Plan,
     bytes: Bytes,
+    registry: &R,
 ) -> Result<Answer, Memory>
-    ensures { IfOk result (λ a. a ≡ spec.of_document strict plan.now bytes) }
+    ensures { IfOk result (λ a. a ≡
+        spec.of_document (R.functions registry.now) strict plan.now bytes) }
 {
     let document = read(alloc, bytes.as_slice());
     drop(bytes);
     match document {
-        Ok(tree) => answer_tree(alloc, strict, plan, tree),
+        Ok(tree) => answer_tree(alloc, strict, plan, tree, registry),
         Err(ReadFault::Bad { at }) => no_json(alloc, bad_text(alloc, at)?),
         Err(ReadFault::End) => no_json(alloc, end_text(alloc)?),
         Err(ReadFault::Memory) => Err(Memory),

@@ -13,6 +13,7 @@ use crate::status::Status;
 use crate::working::work;
 use pv_command::Words;
 use pv_edge::{Failed, Shelf, Sink, put_all};
+use pv_func::Objects;
 use std::alloc::Global;
 
 /// Puts all of the bytes, and nothing where there are none.
@@ -29,14 +30,16 @@ fn print<O: Sink>(out: &mut O, bytes: &[u8]) -> Result<(), Failed>
     put_all(out, bytes)
 }
 
-/// Runs the command that the words name. The files come from the shelf, the answer goes to `out`, and
-/// a line that says why there is none goes to `err`.
-pub fn run<F: Shelf, O: Sink, E: Sink>(
+/// Runs the command that the words name. The files come from the shelf, and the functions that a
+/// schema names from the registry. The answer goes to `out`, and a line that says why there is none
+/// goes to `err`.
+pub fn run<F: Shelf, O: Sink, E: Sink, R: Objects>(
     alloc: Global,
     words: &Words,
     shelf: &mut F,
     out: &mut O,
     err: &mut E,
+    registry: &R,
 ) -> Status
     requires given { F.given shelf.old ≤ 2 ^ 62 }
     requires shelf_faults { F.faults shelf.old < 2 ^ 64 - 1 }
@@ -45,19 +48,22 @@ pub fn run<F: Shelf, O: Sink, E: Sink>(
 
     // What the words and the files decide is printed, exactly.
     ensures exact_status { is_decided result ≡ true →
-        WhereTold (F.held shelf.old) (λ files. (answer words.now files).status ≡ result) }
+        WhereTold (F.held shelf.old) (λ files.
+        (answer words.now (R.functions registry.now) files).status ≡ result) }
     ensures exact_output { is_decided result ≡ true →
         WhereTold (F.held shelf.old) (λ files.
-        Appends (O.took out.old) (O.took out.new) (answer words.now files).out) }
+        Appends (O.took out.old) (O.took out.new)
+        (answer words.now (R.functions registry.now) files).out) }
     ensures exact_line { is_decided result ≡ true →
         WhereTold (F.held shelf.old) (λ files.
         Puts (E.took err.old) (E.took err.new) (E.faults err.old) (E.faults err.new)
-        (answer words.now files).line) }
+        (answer words.now (R.functions registry.now) files).line) }
     ensures whole_files { is_printed result ≡ true →
         WhereTold (F.held shelf.old) (λ files.
         F.given shelf.new ≡ F.given shelf.old + read_size files (files_of (asked words.now))) }
 
-    // Words that are refused are refused before anything is read, and so are commands that are not built.
+    // Words that are refused are refused before anything is read, and so are commands that are not
+    // built.
     ensures words_refused { result ≡ Status.WordsRefused →
         IsSome (place_of (asked words.now)) × (F.given shelf.new ≡ F.given shelf.old) }
     ensures words_decide { IsSome (place_of (asked words.now)) →
@@ -69,9 +75,9 @@ pub fn run<F: Shelf, O: Sink, E: Sink>(
     // Why anything else comes.
     ensures read_cause { result ≡ Status.ReadFault →
         (F.faults shelf.old < F.faults shelf.new) ⊎ IsTold (F.held shelf.old) (λ files.
-        ((answer words.now files).status ≡ result) ×
+        ((answer words.now (R.functions registry.now) files).status ≡ result) ×
         Puts (E.took err.old) (E.took err.new) (E.faults err.old) (E.faults err.new)
-        (answer words.now files).line) }
+        (answer words.now (R.functions registry.now) files).line) }
     ensures large_cause { result ≡ Status.TooLarge →
         F.given shelf.old + limit_of (asked words.now) + 1 ≤ F.given shelf.new }
     ensures write_cause { result ≡ Status.WriteFault → O.faults out.old < O.faults out.new }
@@ -83,12 +89,16 @@ pub fn run<F: Shelf, O: Sink, E: Sink>(
         Appends (O.took out.old) (O.took out.new) [] }
     ensures write_part { result ≡ Status.WriteFault →
         WhereTold (F.held shelf.old) (λ files.
-        SentInPart (O.took out.old) (O.took out.new) (answer words.now files).out) }
+        SentInPart (O.took out.old) (O.took out.new)
+        (answer words.now (R.functions registry.now) files).out) }
 
-    // Where no count of faults rises, it is the status that the words and the files decide, or want of memory.
-    ensures complete { F.faults shelf.new ≡ F.faults shelf.old → O.faults out.new ≡ O.faults out.old →
+    // Where no count of faults rises, it is the status that the words and the files decide, or want
+    // of memory.
+    ensures complete { F.faults shelf.new ≡ F.faults shelf.old →
+        O.faults out.new ≡ O.faults out.old →
         WhereTold (F.held shelf.old) (λ files.
-        (result ≡ (answer words.now files).status) ⊎ (result ≡ Status.Memory)) }
+        (result ≡ (answer words.now (R.functions registry.now) files).status) ⊎
+        (result ≡ Status.Memory)) }
 
     // The line of each status. The line of a read fault names the file at which reading stopped.
     ensures line { (text : List ℕ) × IsLineOf (asked words.now) result text ×
@@ -102,7 +112,7 @@ pub fn run<F: Shelf, O: Sink, E: Sink>(
     ensures later { F.faults shelf.old ≤ F.faults shelf.new }
     ensures rises { F.given shelf.old ≤ F.given shelf.new }
 {
-    let Ok(answer) = work(alloc, words, shelf) else {
+    let Ok(answer) = work(alloc, words, shelf, registry) else {
         let _ = put_all(err, b"out of memory\n");
         return Status::Memory;
     };

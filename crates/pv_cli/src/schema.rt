@@ -12,6 +12,7 @@ ghost use Rattle.pv_cli.specs.Steps.{shown};
 use crate::answer::Answer;
 use crate::lines;
 use crate::status::Status;
+use pv_func::Objects;
 use pv_json::{ReadFault, read};
 use pv_node::Schema;
 use pv_plan::{BuildFault, Plan, build};
@@ -33,12 +34,37 @@ fn refused(line: ByteBuf, alloc: Global) -> SchemaStep
     SchemaStep::Answered(Answer::refused(alloc, line, Status::SchemaRefused))
 }
 
-fn build_schema(alloc: Global, schema: &Schema) -> Result<SchemaStep, Memory>
+fn build_schema<R: Objects>(
+    alloc: Global,
+    schema: &Schema,
+    registry: &R,
+) -> Result<SchemaStep, Memory>
     ensures { IfOk result (λ s. shown s ≡
-        schema_or_answer (spec.file_of_schema schema.now (builds schema.now))) }
+        schema_or_answer (spec.file_of_schema schema.now
+        (builds (R.functions registry.now) schema.now))) }
 {
-    match build(alloc, schema) {
+    match build(alloc, schema, registry) {
         Ok(plan) => Ok(SchemaStep::Served(plan)),
+        Err(BuildFault::DuplicateRef { name }) => {
+            let line = lines::duplicate_ref(alloc, &name)?;
+            Ok(refused(line, alloc))
+        }
+        Err(BuildFault::UndefinedRef { name }) => {
+            let line = lines::undefined_ref(alloc, &name)?;
+            Ok(refused(line, alloc))
+        }
+        Err(BuildFault::EmptyCycle { names }) => {
+            let line = lines::empty_cycle(alloc, &names)?;
+            Ok(refused(line, alloc))
+        }
+        Err(BuildFault::UnknownFunction { name }) => {
+            let line = lines::unknown_function(alloc, &name)?;
+            Ok(refused(line, alloc))
+        }
+        Err(BuildFault::WrongFunctionKind { name }) => {
+            let line = lines::wrong_kind_of_function(alloc, &name)?;
+            Ok(refused(line, alloc))
+        }
         Err(BuildFault::BadPattern { path }) => {
             let line = lines::bad_pattern(alloc, &path)?;
             Ok(refused(line, alloc))
@@ -47,12 +73,12 @@ fn build_schema(alloc: Global, schema: &Schema) -> Result<SchemaStep, Memory>
     }
 }
 
-fn read_shape(alloc: Global, tree: &Tree) -> Result<SchemaStep, Memory>
+fn read_shape<R: Objects>(alloc: Global, tree: &Tree, registry: &R) -> Result<SchemaStep, Memory>
     ensures { IfOk result (λ s. shown s ≡
-        schema_or_answer (spec.file_of_shape (schema_of tree.now))) }
+        schema_or_answer (spec.file_of_shape (R.functions registry.now) (schema_of tree.now))) }
 {
     match read_schema(alloc, tree) {
-        Ok(schema) => build_schema(alloc, &schema),
+        Ok(schema) => build_schema(alloc, &schema, registry),
         Err(SchemaFault::Shape { path, code }) => {
             let line = lines::bad_shape(alloc, code, &path)?;
             Ok(refused(line, alloc))
@@ -66,12 +92,16 @@ fn read_shape(alloc: Global, tree: &Tree) -> Result<SchemaStep, Memory>
     }
 }
 
-pub(crate) fn read_schema_file(alloc: Global, bytes: &[u8]) -> Result<SchemaStep, Memory>
+pub(crate) fn read_schema_file<R: Objects>(
+    alloc: Global,
+    bytes: &[u8],
+    registry: &R,
+) -> Result<SchemaStep, Memory>
     ensures { IfOk result (λ s. shown s ≡
-        schema_or_answer (spec.schema_file (reading 128 bytes.now))) }
+        schema_or_answer (spec.schema_file (R.functions registry.now) (reading 128 bytes.now))) }
 {
     match read(alloc, bytes) {
-        Ok(tree) => read_shape(alloc, &tree),
+        Ok(tree) => read_shape(alloc, &tree, registry),
         Err(ReadFault::Bad { at }) => {
             let line = lines::schema_not_json(alloc, at)?;
             Ok(refused(line, alloc))

@@ -29,6 +29,10 @@ validate_form = form strictness (λ o. schema_and_document (Validate o.strict))
 abbrev pub dump_form : Form
 dump_form = form (strictness ++ serialisation) (λ o. schema_and_document (Dump o))
 
+-- behind `check`
+abbrev pub check_form : Form
+check_form = form [] (λ o. one_schema Check)
+
 -- behind `lines`
 abbrev pub lines_form : Form
 lines_form = form strictness (λ o. schema_and_document (Lines o.strict))
@@ -53,7 +57,7 @@ commands =
     built (codes "validate") validate_form ∷
     unbuilt (codes "dump") dump_form ∷
     unbuilt (codes "lines") lines_form ∷
-    unbuilt (codes "check") (form [] (λ o. one_schema Check)) ∷
+    built (codes "check") check_form ∷
     unbuilt (codes "jsonschema") (form [] (λ o. one_schema JsonSchema)) ∷
     unbuilt (codes "workload") (form [] (λ o. seed_and_count Workload)) ∷ []
 
@@ -161,7 +165,7 @@ abbrev pub IsServed : Asked → Type 0
 IsServed (Run (Validate strict schema document)) = Unit {0}
 IsServed (Run (Dump options schema document)) = ⊥
 IsServed (Run (Lines strict schema document)) = ⊥
-IsServed (Run (Check schema)) = ⊥
+IsServed (Run (Check schema)) = Unit {0}
 IsServed (Run (JsonSchema schema)) = ⊥
 IsServed (Run (Workload seed count)) = ⊥
 IsServed (Refused at) = Unit {0}

@@ -16,11 +16,11 @@ use Rattle.pv_command.specs.declared.table.OptionEntry.{OptionEntry}
 use Rattle.pv_command.specs.declared.table.Operand.{Operand}
 use Rattle.pv_command.specs.declared.table.Operand.TheVariants.{File, OtherFile}
 use Rattle.pv_command.specs.declared.table.OptionSet.{OptionSet}
-use Rattle.pv_command.specs.declared.table.OptionSet.TheVariants.{Strictness}
+use Rattle.pv_command.specs.declared.table.OptionSet.TheVariants.{Empty, Strictness}
 use Rattle.pv_command.specs.declared.table.OperandList.{OperandList}
-use Rattle.pv_command.specs.declared.table.OperandList.TheVariants.{SchemaAndDocument}
+use Rattle.pv_command.specs.declared.table.OperandList.TheVariants.{OneSchema, SchemaAndDocument}
 use Rattle.pv_command.specs.declared.table.Made.{Made}
-use Rattle.pv_command.specs.declared.table.Made.TheVariants.{Validate}
+use Rattle.pv_command.specs.declared.table.Made.TheVariants.{Validate, Check}
 use Rattle.pv_command.specs.declared.table.Takes.{Takes}
 use Rattle.pv_command.specs.declared.table.CommandEntry.{CommandEntry}
 
@@ -42,10 +42,12 @@ rows_of (e ∷ es) =
 
 -- the options of a set
 abbrev pub options_of : OptionSet → List Row
+options_of Empty = []
 options_of Strictness = strictness
 
 -- the kinds of the operands of a list
 abbrev pub kinds_of : OperandList → List Operand
+kinds_of OneSchema = File ∷ []
 kinds_of SchemaAndDocument = File ∷ OtherFile ∷ []
 
 -- the word at a place, or none
@@ -55,6 +57,7 @@ word_at n words = get_or words n []
 -- the command that is made of the options and the operands
 abbrev pub made_of : Made → Options → List (List ℕ) → Command
 made_of Validate o words = command.Validate o.strict (word_at 0 words) (word_at 1 words)
+made_of Check o words = command.Check (word_at 0 words)
 
 -- operands of these kinds behind others, and the command that is made of all of them
 abbrev pub operands_by : List Operand → List (List ℕ) → (List (List ℕ) → Command) → Operands

@@ -138,6 +138,9 @@ fn make(alloc: Global, made: Made, options: &Options, operands: &[Text]) -> Resu
                 document,
             })
         }
+        Made::Check => Ok(Command::Check {
+            schema: word_at(alloc, operands, 0)?,
+        }),
     }
 }
 

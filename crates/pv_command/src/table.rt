@@ -16,8 +16,11 @@ pub(crate) struct OptionEntry {
 /// The options that a command takes.
 #[derive(Clone, Copy)]
 pub(crate) enum OptionSet {
+    Empty,
     Strictness,
 }
+
+const EMPTY: [OptionEntry; 0] = [];
 
 const STRICTNESS: [OptionEntry; 2] = [
     OptionEntry {
@@ -35,6 +38,7 @@ impl OptionSet {
         ensures { rows_of result.now ≡ options_of self }
     {
         match self {
+            OptionSet::Empty => &EMPTY,
             OptionSet::Strictness => &STRICTNESS,
         }
     }
@@ -52,8 +56,11 @@ pub(crate) enum Operand {
 /// The operands that a command takes.
 #[derive(Clone, Copy)]
 pub(crate) enum OperandList {
+    OneSchema,
     SchemaAndDocument,
 }
+
+const ONE_SCHEMA: [Operand; 1] = [Operand::File];
 
 const SCHEMA_AND_DOCUMENT: [Operand; 2] = [Operand::File, Operand::OtherFile];
 
@@ -62,6 +69,7 @@ impl OperandList {
         ensures { result.now ≡ kinds_of self }
     {
         match self {
+            OperandList::OneSchema => &ONE_SCHEMA,
             OperandList::SchemaAndDocument => &SCHEMA_AND_DOCUMENT,
         }
     }
@@ -71,6 +79,7 @@ impl OperandList {
 #[derive(Clone, Copy)]
 pub(crate) enum Made {
     Validate,
+    Check,
 }
 
 /// What stands behind a command's name, and what is made of it.
@@ -119,7 +128,12 @@ const COMMANDS: [CommandEntry; 6] = [
     ),
     unbuilt!("dump"),
     unbuilt!("lines"),
-    unbuilt!("check"),
+    built!(
+        "check",
+        OptionSet::Empty,
+        OperandList::OneSchema,
+        Made::Check
+    ),
     unbuilt!("jsonschema"),
     unbuilt!("workload"),
 ];

@@ -6,3 +6,7 @@ pub mod MemSinkState
 pub mod Picking
 pub mod Rising
 pub mod Sending
+pub mod Cutting
+pub mod LinesState
+pub mod Reading
+pub mod Finding

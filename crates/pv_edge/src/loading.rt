@@ -5,12 +5,10 @@ ghost use Rattle.pv_edge.specs.Loading.{GivesUpToEnd, GivesWithin, IsContent, Is
 ghost use Rattle.pv_edge.specs.Rising.{Rose};
 
 use crate::shelf::{Failed, Shelf};
+use crate::window::PIECE;
 use pv_text::Bytes;
 use std::alloc::{AllocError, Global};
 use thiserror::Error;
-
-// How many bytes one read asks for at most.
-const PIECE: usize = 4096;
 
 /// Why a file was not loaded.
 #[derive(Clone, Copy, Debug, PartialEq, Eq, Drop, Error)]

@@ -1,10 +1,1 @@
-pub mod Rules
-pub mod Fields
-pub mod Wrapping
 pub mod Meaning
-pub mod Run
-pub mod Walks
-pub mod Nests
-pub mod Going
-pub mod GoingFields
-pub mod Objects

@@ -1,4 +1,5 @@
 pub mod Among
+pub mod Entering
 pub mod Making
 pub mod Placing
 pub mod Reaching

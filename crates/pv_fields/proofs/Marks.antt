@@ -10,16 +10,20 @@ use Rattle.std.proofs.lemmas.Option.{get_or_from_slice_get, slice_get-get_or, sl
 use Rattle.std.proofs.lemmas.List.Folds.{list_any-append}
 use Rattle.pv_tree.specs.declared.Step.{Step}
 use Rattle.pv_tree.specs.declared.Step.TheVariants.{Name, Index}
-use Rattle.pv_tree.specs.declared.Tree.{Tree}
+use Rattle.pv_tree.specs.declared.Tree.{Tree, out-Tree}
+use Rattle.pv_tree.specs.declared.tree.Tree.TheOpen.{Tree-F}
 use Rattle.pv_tree.specs.Merging.{place_of}
 use Rattle.pv_tree.specs.Names.{HasDistinctNames}
+use Rattle.pv_tree.specs.Parts.{members_at}
 use Rattle.pv_rules.specs.declared.FieldRule.{FieldRule}
 use Rattle.pv_rules.specs.declared.Settings.{Settings}
 use Rattle.pv_fields.specs.Paths.{paths_of}
-use Rattle.pv_fields.specs.declared.found.Found.{Found}
+use Rattle.pv_paths.specs.declared.found.Found.{Found}
 use Rattle.pv_fields.specs.declared.field_paths.FieldPaths.{FieldPaths}
-use Rattle.pv_fields.specs.Finding.{Finds, found, found_field, begins, is_extra, members_in, taken_path, taken_paths}
-use Rattle.pv_fields.specs.Planned.{begin_place, field_paths, hit, marked, taken_by, taken_member}
+use Rattle.pv_paths.specs.Following.{found}
+use Rattle.pv_fields.specs.Finding.{Finds, found_field, begins, is_extra, members_or_none, members_in, taken_path, taken_paths}
+use Rattle.pv_paths.specs.Following.{hit}
+use Rattle.pv_fields.specs.Planned.{begin_place, field_paths, marked, taken_by, taken_member}
 use Rattle.pv_fields.proofs.Placing.{place_from, place_least}
 
 -- a name that is not the one leaves a test as it is
@@ -130,6 +134,15 @@ module _ (t : Tree) (d : HasDistinctNames (members_in t)) where
       ap (marked (flags (taken_paths s t (take i fs)))) (taken_as (paths_of s g) (found (paths_of s g) t))
       ∙ sym (ap (λ xs. flags (taken_paths s t xs)) (take_more fs i f l)
       ∙ ap flags (flat_map-append (λ h. option_to_list (taken_path s t h)) (take i fs) (g ∷ [])) ∙ one_more (taken_paths s t (take i fs)) (taken_path s t g))
+
+-- the members of a tree have distinct names
+distinct_by : (x : Tree-F Tree) → HasDistinctNames (members_or_none (members_at x))
+unfolding IsDistinct
+distinct_by (Tree-F.Object d) = d.distinct
+distinct_by x = tt
+
+pub distinct_in : (t : Tree) → HasDistinctNames (members_in t)
+distinct_in t = distinct_by (out-Tree t)
 
 -- no member is taken at first
 pub marks_none : {V : Type 0} (ms : List (List ℕ × V)) → replicate (length ms) true ≡ map (λ m. is_extra [] m.0) ms

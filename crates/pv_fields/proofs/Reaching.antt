@@ -10,7 +10,8 @@ use Rattle.pv_tree.specs.declared.Tree.{Tree, out-Tree}
 use Rattle.pv_tree.specs.Merged.{value_at}
 use Rattle.pv_tree.specs.Merging.{place_of}
 use Rattle.pv_tree.specs.Parts.{members_at}
-use Rattle.pv_fields.specs.Finding.{part_at, follow, found, found_by, found_from, members_or_none, members_in}
+use Rattle.pv_paths.specs.Following.{part_at, follow, found, found_by, found_from}
+use Rattle.pv_fields.specs.Finding.{members_or_none, members_in}
 use Rattle.pv_fields.specs.Planned.{begin_place, reached, taken_by, taken_member}
 use Rattle.pv_fields.proofs.Placing.{value_there, value_lacking}
 
@@ -21,20 +22,27 @@ part_by (Some ms) name = refl
 part_named : (t : Tree) (name : List ℕ) → part_at (Name name) t ≡ value_at (members_in t) name
 part_named t name = part_by (members_at (out-Tree t)) name
 
+module _ (t : Tree) (name : List ℕ) (o : Option ℕ) (place : o ≡ place_of (members_in t) name) where
+  -- of a name that has no place
+  pub value_none : o ≡ None → None ≡ part_at (Name name) t
+  value_none is = sym (part_named t name ∙ value_lacking (members_in t) name (sym place ∙ is))
+
+  -- of a name that has one
+  pub value_some : (n : ℕ) (ms : List (List ℕ × Tree)) (d : List ℕ × Tree) → o ≡ Some n → ms ≡ members_in t → Some (get_or ms n d).1 ≡ part_at (Name name) t
+  value_some n ms d is same =
+      ap (λ xs. Some (get_or xs n d).1) same ∙ sym (part_named t name ∙ value_there (members_in t) name n d (sym place ∙ is))
+
 module _ (t : Tree) (name : List ℕ) (rest : List Step) where
   abbrev pub end_with : Option ℕ → Option Tree → Option (Option ℕ × Tree)
   end_with place o = option_map (λ end. (place, end)) o
 
-  pub reached_none : (o : Option ℕ) → o ≡ place_of (members_in t) name → o ≡ None → None ≡ reached (Name name ∷ rest) t
-  reached_none o place is =
-      sym (ap (λ x. end_with (place_of (members_in t) name) (option_and_then (follow rest) x)) (part_named t name ∙ value_lacking (members_in t) name (sym place ∙ is)))
+  pub reached_none : None ≡ part_at (Name name) t → None ≡ reached (Name name ∷ rest) t
+  reached_none value = ap (λ x. end_with (place_of (members_in t) name) (option_and_then (follow rest) x)) value
 
-  pub reached_some : (o : Option ℕ) (n : ℕ) (ms : List (List ℕ × Tree)) (d : List ℕ × Tree) → o ≡ place_of (members_in t) name → o ≡ Some n → ms ≡ members_in t
-      → end_with (Some n) (follow rest (get_or ms n d).1) ≡ reached (Name name ∷ rest) t
-  reached_some o n ms d place is same =
-      ap (λ xs. end_with (Some n) (follow rest (get_or xs n d).1)) same
-      ∙ sym (ap (λ x. end_with (place_of (members_in t) name) (option_and_then (follow rest) x)) (part_named t name ∙ value_there (members_in t) name n d (sym place ∙ is))
-      ∙ ap (λ x. end_with x (follow rest (get_or (members_in t) n d).1)) (sym place ∙ is))
+  pub reached_some : (n : ℕ) (x : Tree) → Some n ≡ place_of (members_in t) name → Some x ≡ part_at (Name name) t
+      → end_with (Some n) (follow rest x) ≡ reached (Name name ∷ rest) t
+  reached_some n x place value =
+      ap (λ o. end_with o (follow rest x)) place ∙ ap (λ o. end_with (place_of (members_in t) name) (option_and_then (follow rest) o)) value
 
 -- what is reached
 abbrev End : Type 0

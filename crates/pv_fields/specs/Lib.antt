@@ -4,4 +4,5 @@ pub mod FieldList
 pub mod Kept
 pub mod Planned
 pub mod Directories
+pub mod Entering
 pub mod Sublists

@@ -10,21 +10,15 @@ use Rattle.pv_equality.specs.Equality.{is_str}
 use Rattle.pv_rules.specs.declared.FieldRule.{FieldRule}
 use Rattle.pv_rules.specs.declared.Settings.{Settings}
 use Rattle.pv_fields.specs.declared.field_paths.FieldPaths.{FieldPaths}
-use Rattle.pv_fields.specs.declared.found.Found.{Found}
-use Rattle.pv_fields.specs.declared.found.Found.TheVariants.{At, Missing}
-use Rattle.pv_fields.specs.declared.directory.End.{End}
+use Rattle.pv_fields.specs.declared.directories.End.{End}
 use Rattle.pv_tree.specs.Merging.{place_of}
-use Rattle.pv_fields.specs.Finding.{follow, found, members_in}
+use Rattle.pv_paths.specs.Following.{follow, found}
+use Rattle.pv_fields.specs.Finding.{members_in}
 use Rattle.pv_fields.specs.Paths.{paths_of, named}
 
 -- the paths of a field beside its name as a path
 abbrev pub field_paths : Settings → FieldRule → FieldPaths
 field_paths s f = record { paths = paths_of s f; named = named f.name }
-
--- what was found, as the number of the path and the tree at its end
-abbrev pub hit : Found → Option (ℕ × Tree)
-hit (At path t) = Some (path, t.now)
-hit Missing = None
 
 -- the keys of the entries are some of the members' names, in their order
 abbrev pub among : List (List ℕ × Tree) → List (Value × Value) → Bool

@@ -1,17 +1,15 @@
 //! The members of an object by their names.
 
-ghost use Rattle.std.specs.Prelude.{◌≡◌, Some, None, IsTrue, IfOk, OnOk, length, ◌∷◌};
-ghost use Rattle.std.specs.Option.{option_copied, option_map};
+ghost use Rattle.std.specs.Prelude.{◌≡◌, Some, IsTrue, IfOk, IfSome, length};
+ghost use Rattle.std.specs.Option.{option_map};
 ghost use Rattle.pv_tree.specs.Merging.{IsIndex, place_of};
 ghost use Rattle.pv_tree.specs.Names.{HasDistinctNames};
-ghost use Rattle.pv_fields.specs.Finding.{found, members_in};
-ghost use Rattle.pv_fields.specs.Finding as spec;
-ghost use Rattle.pv_fields.specs.Planned.{end_of, hit, reached, taken_member};
+ghost use Rattle.pv_paths.specs.Following.{part_at};
+ghost use Rattle.pv_fields.specs.Entering.{part_in};
+ghost use Rattle.pv_fields.specs.Finding.{members_in};
 
-use crate::following::follow;
-use crate::found::Found;
 use pv_text::{Memory, Text};
-use pv_tree::{Loc, Step, Tree};
+use pv_tree::{Step, Tree};
 use std::alloc::Global;
 use std::collections::BTreeMap;
 use std::marker::Model;
@@ -36,7 +34,8 @@ fn members_of<'a>(tree: &'a Tree) -> &'a [(Text, Tree)]
 /// Whether the member at this place has the name.
 #[tactic(auto, using(crate::proofs::Placing::stands))]
 fn stands_at(members: &[(Text, Tree)], place: usize, name: &Text) -> bool
-    ensures { HasDistinctNames members.now → IsTrue result → place_of members.now name.now ≡ Some place }
+    ensures { HasDistinctNames members.now → IsTrue result
+        → place_of members.now name.now ≡ Some place }
 {
     place < members.len() && *name == members[place].0
 }
@@ -65,23 +64,15 @@ fn index_of(alloc: Global, members: &[(Text, Tree)]) -> Result<BTreeMap<Text, us
     Ok(places)
 }
 
-/// The end of a path, and the place of the member that the path begins with.
+/// A part of a tree, and its place among the members or the items.
 #[derive(Clone, Copy)]
-pub(crate) struct End<'a> {
-    member: Option<usize>,
-    tree: &'a Tree,
+pub(crate) struct Part<'a> {
+    pub(crate) place: usize,
+    pub(crate) tree: &'a Tree,
 }
 
-fn end_at<'a>(member: Option<usize>, tree: Option<&'a Tree>) -> Option<End<'a>>
-    ensures { option_map end_of result ≡ option_map (λ t. (member, t)) (option_copied tree.entry) }
-{
-    match tree {
-        Some(tree) => Some(End { member, tree }),
-        None => None,
-    }
-}
-
-/// A tree whose members are looked up by their names, most often one after another. It is seen as the tree.
+/// A tree whose members are looked up by their names, most often one after another. It is seen as
+/// the tree.
 #[derive(Drop)]
 pub(crate) struct Directory<'a> {
     whole: &'a Tree,
@@ -131,7 +122,7 @@ impl<'a> Directory<'a> {
     /// The place of a name that does not come next.
     fn search(&mut self, alloc: Global, name: &Text) -> Result<Option<usize>, Memory>
         ensures place { IfOk result (λ place. place ≡ place_of (members_in self.old) name.now) }
-        ensures same { OnOk result (self.new ≡ self.old) }
+        ensures same { self.new ≡ self.old }
     {
         if let Some(places) = &self.index {
             return Ok(places.get(name).copied());
@@ -149,7 +140,7 @@ impl<'a> Directory<'a> {
     /// The place of the member that has the name.
     fn place(&mut self, alloc: Global, name: &Text) -> Result<Option<usize>, Memory>
         ensures place { IfOk result (λ place. place ≡ place_of (members_in self.old) name.now) }
-        ensures same { OnOk result (self.new ≡ self.old) }
+        ensures same { self.new ≡ self.old }
     {
         let place = if stands_at(self.members, self.next, name) {
             Some(self.next)
@@ -162,68 +153,56 @@ impl<'a> Directory<'a> {
         Ok(place)
     }
 
-    /// The end of a path that begins with a name.
+    /// The value of the member that has the name.
     #[tactic(auto, using(crate::proofs::Placing::within))]
-    fn reach_by_name(
-        &mut self,
-        alloc: Global,
-        name: &Text,
-        rest: &[Step],
-    ) -> Result<Option<End<'a>>, Memory>
-        ensures end { IfOk result (λ end. option_map end_of end ≡ reached (Step.Name name.now ∷ rest.now) self.old) }
-        ensures same { OnOk result (self.new ≡ self.old) }
+    pub(crate) fn member(&mut self, alloc: Global, name: &Text) -> Result<Option<Part<'a>>, Memory>
+        ensures place { IfOk result (λ part. option_map (λ p. p.place) part
+            ≡ place_of (members_in self.old) name.now) }
+        ensures value { IfOk result (λ part. option_map (λ p. p.tree.now) part
+            ≡ part_at (Step.Name name.now) self.old) }
+        ensures inside { IfOk result (λ part. IfSome part (λ p.
+            part_in self.old p.place ≡ Some p.tree.now)) }
+        ensures same { self.new ≡ self.old }
     {
-        let Some(member) = self.place(alloc, name)? else {
+        let Some(place) = self.place(alloc, name)? else {
             return Ok(None);
         };
         let members = self.members;
-        Ok(end_at(Some(member), follow(rest, &members[member].1)))
+        Ok(Some(Part {
+            place,
+            tree: &members[place].1,
+        }))
     }
 
-    /// The end of a path that begins with no name.
-    fn reach_whole(&self, steps: &[Step]) -> Option<End<'a>>
-        ensures { option_map end_of result ≡ option_map (λ t. (None, t)) (spec.follow steps.now self.now) }
+    /// The item at this place.
+    fn item(&self, place: u64) -> Option<Part<'a>>
+        ensures value { option_map (λ p. p.tree.now) result ≡ part_at (Step.Index place) self.now }
+        ensures inside { IfSome result (λ p. part_in self.now p.place ≡ Some p.tree.now) }
     {
-        end_at(None, follow(steps, self.whole))
+        let whole = self.whole;
+        let place = place as usize;
+        let tree = whole.as_array()?.get(place)?;
+        Some(Part { place, tree })
     }
 
-    /// The end of a path.
-    fn reach(&mut self, alloc: Global, steps: &[Step]) -> Result<Option<End<'a>>, Memory>
-        ensures end { IfOk result (λ end. option_map end_of end ≡ reached steps.now self.old) }
-        ensures same { OnOk result (self.new ≡ self.old) }
+    /// The part that a step leads to.
+    pub(crate) fn part(&mut self, alloc: Global, step: &Step) -> Result<Option<Part<'a>>, Memory>
+        ensures value { IfOk result (λ part. option_map (λ p. p.tree.now) part
+            ≡ part_at step.now self.old) }
+        ensures inside { IfOk result (λ part. IfSome part (λ p.
+            part_in self.old p.place ≡ Some p.tree.now)) }
+        ensures same { self.new ≡ self.old }
     {
-        match steps.split_first() {
-            None => Ok(self.reach_whole(steps)),
-            Some((Step::Index(_), _)) => Ok(self.reach_whole(steps)),
-            Some((Step::Name(name), rest)) => self.reach_by_name(alloc, name, rest),
+        match step {
+            Step::Name(name) => self.member(alloc, name),
+            Step::Index(place) => Ok(self.item(*place)),
         }
     }
 
-    /// The first path whose steps all lead on, and the place of the member that it begins with.
-    #[tactic(auto, using(crate::proofs::Reaching::taken_is), unfolding(crate::specs::Finding::found))]
-    pub(crate) fn first_found(
-        &mut self,
-        alloc: Global,
-        paths: &[Loc],
-    ) -> Result<(Found<'a>, Option<usize>), Memory>
-        ensures found { IfOk result (λ r. hit r.0 ≡ found paths.now self.old) }
-        ensures member { IfOk result (λ r. r.1 ≡ taken_member paths.now self.old) }
-        ensures same { OnOk result (self.new ≡ self.old) }
+    /// The tree itself.
+    pub(crate) fn tree(&self) -> &'a Tree
+        ensures { result.now ≡ self.now }
     {
-        for (path, steps) in paths.iter().enumerate() {
-            match self.reach(alloc, steps.as_slice())? {
-                Some(end) => {
-                    return Ok((
-                        Found::At {
-                            path,
-                            tree: end.tree,
-                        },
-                        end.member,
-                    ));
-                }
-                None => {}
-            }
-        }
-        Ok((Found::Missing, None))
+        self.whole
     }
 }

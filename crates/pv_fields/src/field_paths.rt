@@ -53,7 +53,8 @@ fn reads_by_name(settings: &Settings) -> bool
 
 /// The paths of an alias, where the settings read by alias.
 fn alias_paths(alloc: Global, settings: &Settings, alias: &AliasRule) -> Result<Vec<Loc>, Memory>
-    ensures { IfOk result (λ all. all.items ≡ spec.paths_if settings.now.validate_by_alias alias.now.paths) }
+    ensures { IfOk result (λ all. all.items
+        ≡ spec.paths_if settings.now.validate_by_alias alias.now.paths) }
 {
     if settings.validate_by_alias {
         copy_paths(alloc, alias.paths.as_slice())

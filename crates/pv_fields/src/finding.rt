@@ -3,9 +3,9 @@
 ghost use Rattle.std.specs.Prelude.{◌≡◌};
 ghost use Rattle.pv_fields.specs.Planned.{marked};
 
-use crate::directory::Directory;
-use crate::found::Found;
+use crate::directories::Directories;
 use crate::plan::FieldPlan;
+use pv_paths::Found;
 use pv_text::Memory;
 use pv_tree::Tree;
 use std::alloc::Global;
@@ -23,7 +23,7 @@ impl<'a> Model for Finds<'a> {
     ghost use Rattle.pv_tree.specs.contracts.Tree as tree;
     ghost use Rattle.std.specs.Coded.{codes};
     ghost use Rattle.pv_fields.specs.Finding as spec;
-    ghost use Rattle.pv_fields.specs.Planned.{hit};
+    ghost use Rattle.pv_paths.specs.Following.{hit};
 
     ghost Value = { spec.Finds };
 
@@ -34,7 +34,7 @@ impl<'a> Model for Finds<'a> {
 
 impl<'a> Finds<'a> {
     ghost use Rattle.std.specs.Prelude.{◌≡◌, ◌<◌, Some, length, slice_get};
-    ghost use Rattle.pv_fields.specs.Planned.{hit};
+    ghost use Rattle.pv_paths.specs.Following.{hit};
 
     /// Where the value of a field was found.
     pub fn field(&self, field: usize) -> Found<'a>
@@ -68,17 +68,18 @@ impl FieldPlan {
     ghost use Rattle.std.specs.Prelude.{◌≡◌, IfOk};
     ghost use Rattle.pv_fields.specs.Finding.{finds_of};
 
-    /// Finds all fields of an object and its extra keys. The object's own members are taken in the order in which
-    /// they come, and from an index of their names where many come in another order. In the objects inside it, to
-    /// which paths of several steps lead, one member after another is compared.
+    /// Finds all fields of an object and its extra keys. The object's own members are taken in the
+    /// order in which they come, and from an index of their names where many come in another order.
+    /// So are those of each object inside it that paths of several steps lead into, by all of these
+    /// paths together.
     pub fn find<'a>(&self, alloc: Global, input: &'a Tree) -> Result<Finds<'a>, Memory>
         ensures { IfOk result (λ finds. finds ≡ finds_of self.now.0 self.now.1 input.now) }
     {
-        let mut directory = Directory::new(input);
+        let mut directories = Directories::new(alloc, input);
         let mut fields = Vec::with_capacity(alloc, self.len())?;
-        let mut extra = vec![in alloc; true; directory.len()]?;
+        let mut extra = vec![in alloc; true; directories.len()]?;
         for own in self.paths.as_slice() {
-            let (found, member) = directory.first_found(alloc, own.paths.as_slice())?;
+            let (found, member) = directories.first_found(alloc, own.paths.as_slice())?;
             fields.push(found)?;
             mark(&mut extra, member);
         }

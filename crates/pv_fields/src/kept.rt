@@ -61,7 +61,13 @@ impl Model for KeptFields {
 
     ghost coded = { Prim.hlevel (codes, value.the_row.coded) };
 
-    ghost view = { λ k. record { fields = k.fields.items; given = k.given.items; extra = k.extra.items; grade = k.tally.grade; count = k.tally.count } };
+    ghost view = { λ k. record {
+      fields = k.fields.items;
+      given = k.given.items;
+      extra = k.extra.items;
+      grade = k.tally.grade;
+      count = k.tally.count;
+    } };
 }
 
 impl KeptFields {
@@ -91,8 +97,8 @@ impl KeptFields {
         add(alloc, &mut self.fields, name, found)
     }
 
-    /// Keeps the success of a field that was found in the object, where there are `mark` errors, as before the
-    /// first field. Else nothing changes.
+    /// Keeps the success of a field that was found in the object, where there are `mark` errors, as
+    /// before the first field. Else nothing changes.
     pub fn given(
         &mut self,
         alloc: Global,
@@ -120,7 +126,8 @@ impl KeptFields {
         name: &Text,
         found: Option<Good>,
     ) -> Result<(), Memory>
-        ensures kept { OnOk result (errors ≡ mark → self.new ≡ default_kept self.old name.now found) }
+        ensures kept { OnOk result (errors ≡ mark
+            → self.new ≡ default_kept self.old name.now found) }
         ensures left { OnOk result (errors ≢ mark → self.new ≡ self.old) }
     {
         if errors != mark {

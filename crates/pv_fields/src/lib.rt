@@ -1,13 +1,13 @@
-//! Lists of fields: where the values of fields stand in an object, which of its keys are extra, and what
-//! fields and extra keys make together.
+//! Lists of fields: where the values of fields stand in an object, which of its keys are extra, and
+//! what fields and extra keys make together.
 #![tactic(auto)]
 
+mod beginning;
 mod blank;
+mod directories;
 mod directory;
 mod field_paths;
 mod finding;
-mod following;
-mod found;
 mod kept;
 mod laws;
 mod plan;
@@ -15,7 +15,6 @@ mod tally;
 mod values;
 
 pub use finding::Finds;
-pub use found::Found;
 pub use kept::KeptFields;
 pub use laws::{kept_parts_make_the_whole, set_names_are_fields};
 pub use plan::FieldPlan;

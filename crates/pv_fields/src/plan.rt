@@ -1,9 +1,9 @@
 //! Lists of fields, ready to be looked up.
 
+use crate::beginning::begins_at;
 use crate::blank::Blank;
 use crate::field_paths::{FieldPaths, all_field_paths};
-use crate::following::{begins_at, first_found};
-use crate::found::Found;
+use pv_paths::{Found, first_found};
 use pv_rules::{ExtraBehavior, FieldRule, FieldsKind, FieldsRule, Settings};
 use pv_text::{Memory, Text};
 use pv_tree::{Loc, Members, Tree};
@@ -52,7 +52,7 @@ impl FieldPlan {
     ghost use Rattle.std.specs.Option.{option_map};
     ghost use Rattle.pv_fields.specs.Paths.{front_of, place_of, extra_of};
     ghost use Rattle.pv_fields.specs.Finding.{found_field, is_extra, paths_at};
-    ghost use Rattle.pv_fields.specs.Planned.{hit};
+    ghost use Rattle.pv_paths.specs.Following.{hit};
 
     /// The plan of a rule under settings. The paths of all fields are laid out here.
     pub fn build(alloc: Global, rule: &FieldsRule, settings: &Settings) -> Result<FieldPlan, Memory>
@@ -110,7 +110,8 @@ impl FieldPlan {
     /// What stands in front of the errors of a field that was found at the path of this number.
     pub fn front(&self, field: usize, path: usize) -> &Loc
         requires { field < length self.now.0.fields }
-        ensures { option_map (λ f. front_of self.now.1 f path) (slice_get self.now.0.fields field) ≡ Some result.now }
+        ensures { option_map (λ f. front_of self.now.1 f path) (slice_get self.now.0.fields field)
+            ≡ Some result.now }
     {
         let own = &self.paths.as_slice()[field];
         if !self.settings.loc_by_alias {
@@ -125,7 +126,8 @@ impl FieldPlan {
     /// Where a field is missing, which stands in front of the errors of its default too.
     pub fn place(&self, field: usize) -> &Loc
         requires { field < length self.now.0.fields }
-        ensures { option_map (place_of self.now.1) (slice_get self.now.0.fields field) ≡ Some result.now }
+        ensures { option_map (place_of self.now.1) (slice_get self.now.0.fields field)
+            ≡ Some result.now }
     {
         self.front(field, 0)
     }
@@ -133,13 +135,14 @@ impl FieldPlan {
     /// Where the value of a field is found.
     pub fn lookup<'a>(&self, field: usize, input: &'a Tree) -> Found<'a>
         requires { field < length self.now.0.fields }
-        ensures { option_map (found_field self.now.1 input.now) (slice_get self.now.0.fields field) ≡ Some (hit result) }
+        ensures { option_map (found_field self.now.1 input.now) (slice_get self.now.0.fields field)
+            ≡ Some (hit result) }
     {
         first_found(self.paths.as_slice()[field].paths.as_slice(), input)
     }
 
-    /// Whether a key begins none of the paths at which fields were found. `found` has the number of the path for each
-    /// field.
+    /// Whether a key begins none of the paths at which fields were found. `found` has the number of
+    /// the path for each field.
     pub fn is_extra(&self, key: &Text, found: &[Option<usize>]) -> bool
         ensures { result ≡ is_extra (paths_at self.now.1 self.now.0.fields found.now) key.now }
     {

@@ -14,7 +14,10 @@ pub(crate) struct Tally {
 impl Tally {
     /// Adds those of a part, where it succeeded.
     pub(crate) fn add(&mut self, found: &Option<Good>)
-        ensures { self.new ≡ record { grade = grade_with self.old.grade found.now; count = count_with self.old.count found.now } }
+        ensures { self.new ≡ record {
+          grade = grade_with self.old.grade found.now;
+          count = count_with self.old.count found.now;
+        } }
     {
         if let Some(good) = found {
             self.grade = self.grade.least(good.grade);

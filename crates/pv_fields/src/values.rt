@@ -65,8 +65,8 @@ fn entries_of(
     Ok(entries)
 }
 
-/// The entries that a dict keeps. Where their keys are some of these names, in their order, it takes one
-/// pass.
+/// The entries that a dict keeps. Where their keys are some of these names, in their order, it
+/// takes one pass.
 #[tactic(auto, using(crate::proofs::Among::entries_among))]
 fn merged_among(
     alloc: Global,
@@ -90,7 +90,8 @@ impl FieldPlan {
         given: Vec<Text>,
         extra: Vec<(Text, Value)>,
     ) -> Result<Value, Memory>
-        ensures { IfOk result (λ v. v ≡ spec.value_of self.now.0.kind fields.items given.items extra.items) }
+        ensures { IfOk result (λ v. v
+            ≡ spec.value_of self.now.0.kind fields.items given.items extra.items) }
     {
         match self.rule.kind {
             FieldsKind::Model => Ok(Value::Model {

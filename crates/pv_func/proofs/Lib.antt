@@ -1,4 +1,3 @@
 pub mod Names
 pub mod Meanings
-pub mod Parts
-pub mod Decoded
+pub mod Exchanges

@@ -1,4 +1,6 @@
 pub mod Soundness
+pub mod Wrapper
 pub mod Functions
+pub mod Raised
+pub mod Exchange
 pub mod Adding
-pub mod Shipped

@@ -1,5 +1,9 @@
 //! What functions give.
 
+ghost use Rattle.std.specs.Prelude.{◌≡◌};
+ghost use Rattle.pv_func.specs.Raised.{raised};
+
+use pv_fault::Kind;
 use pv_text::Text;
 use pv_tree::{Tree, Value};
 
@@ -12,6 +16,19 @@ pub enum Raise {
     Assertion(Text),
     /// An error of a type of the function's own.
     Custom { kind: Text, message: Text },
+}
+
+impl Raise {
+    /// The kind of the error that it is.
+    pub fn into_kind(self) -> Kind
+        ensures { result ≡ raised self }
+    {
+        match self {
+            Raise::Value(error) => Kind::ValueError { error },
+            Raise::Assertion(error) => Kind::AssertionError { error },
+            Raise::Custom { kind, message } => Kind::Custom { kind, message },
+        }
+    }
 }
 
 /// What a function gives before the validation of a tree.

@@ -2,9 +2,12 @@
 
 use crate::after::AfterFn;
 use crate::before::BeforeFn;
+use crate::exchange::{Move, WrapRun, answer, begin};
 use crate::func::{Func, FuncId, FuncKind};
 use crate::plain::PlainFn;
 use crate::raise::{Made, Raw};
+use crate::wrap::WrapFn;
+use pv_fault::Outcome;
 use pv_text::{Memory, Text};
 use pv_tree::{Tree, Value};
 use std::alloc::{AllocFailed, Global};
@@ -41,35 +44,35 @@ impl<T: Drop> From<AllocFailed<T>> for AddFault {
     }
 }
 
-/// Functions by their names, no two of one name. `B`, `A` and `P` are boxes where the objects of a
-/// kind differ in type. Contracts see it as the list of the names with their functions, in the
+/// Functions by their names, no two of one name. `B`, `A`, `P` and `W` are boxes where the objects of
+/// a kind differ in type. Contracts see it as the list of the names with their functions, in the
 /// order in which they were added.
 #[derive(Drop)]
-pub struct Registry<B, A, P> {
-    functions: Vec<(Text, Func<B, A, P>)>,
+pub struct Registry<B, A, P, W> {
+    functions: Vec<(Text, Func<B, A, P, W>)>,
     numbers: BTreeMap<Text, usize>,
 }
 
-impl<B, A, P> Model for Registry<B, A, P> {
+impl<B, A, P, W> Model for Registry<B, A, P, W> {
     ghost use Rattle.std.specs.Prelude.{List, ℕ};
     ghost use Rattle.pv_tree.specs.Merging.{IsIndex};
     ghost use Rattle.pv_func.specs.declared.func.Func.{Func};
 
-    ghost Value = { List (List ℕ × Func B A P) };
+    ghost Value = { List (List ℕ × Func B A P W) };
 
     ghost view = { λ r. r.functions.items };
 
     ghost invariant = { λ r. IsIndex r.numbers r.functions.items };
 }
 
-impl<B, A, P> Registry<B, A, P> {
+impl<B, A, P, W> Registry<B, A, P, W> {
     ghost use Rattle.std.specs.Prelude.{◌≡◌, ◌<◌, [], length, Some, option_map, IfSome};
     ghost use Rattle.std.specs.Option.{option_copied, option_and_then};
     ghost use Rattle.pv_tree.specs.Merging.{place_of};
     ghost use Rattle.pv_func.specs.Functions.{kind_of, named, numbered};
 
     /// A registry without functions. It takes no memory yet.
-    pub fn new(alloc: Global) -> Registry<B, A, P>
+    pub fn new(alloc: Global) -> Registry<B, A, P, W>
         ensures { result ≡ [] }
     {
         Registry {
@@ -97,7 +100,7 @@ impl<B, A, P> Registry<B, A, P> {
 
     /// The function of this name, whatever its kind.
     #[tactic(auto, using(crate::proofs::Names::place_within, crate::proofs::Names::named_missing))]
-    pub fn get(&self, name: &Text) -> Option<&Func<B, A, P>>
+    pub fn get(&self, name: &Text) -> Option<&Func<B, A, P, W>>
         ensures { option_copied result ≡ named self.now name.now }
     {
         match self.number(name) {
@@ -106,7 +109,7 @@ impl<B, A, P> Registry<B, A, P> {
         }
     }
 
-    fn function(&self, id: FuncId) -> &Func<B, A, P>
+    fn function(&self, id: FuncId) -> &Func<B, A, P, W>
         requires { id.number < length self.now }
         ensures { numbered self.now id.number ≡ Some result.now }
     {
@@ -122,14 +125,14 @@ impl<B, A, P> Registry<B, A, P> {
     }
 }
 
-impl<B: Drop, A: Drop, P: Drop> Registry<B, A, P> {
+impl<B: Drop, A: Drop, P: Drop, W: Drop> Registry<B, A, P, W> {
     ghost use Rattle.std.specs.Prelude.{◌≡◌, [], ◌∷◌, ◌++◌, length, None, OnOk, OnErr};
     ghost use Rattle.std.specs.Result.{MatchResult};
     ghost use Rattle.pv_tree.specs.Merging.{place_of};
     ghost use Rattle.pv_func.specs.Adding.{AddGives};
 
     /// Adds a function whose name is not there.
-    fn append(&mut self, name: Text, function: Func<B, A, P>) -> Result<FuncId, AddFault>
+    fn append(&mut self, name: Text, function: Func<B, A, P, W>) -> Result<FuncId, AddFault>
         requires { place_of self.old name ≡ None }
         ensures answer { MatchResult result (λ id. id.number ≡ length self.old) (λ e. e ≡ AddFault.Memory) }
         ensures ok { OnOk result (self.new ≡ self.old ++ (name, function) ∷ []) }
@@ -148,7 +151,7 @@ impl<B: Drop, A: Drop, P: Drop> Registry<B, A, P> {
     }
 
     #[tactic(auto, using(crate::proofs::Names::taken, crate::proofs::Names::not_taken))]
-    fn add(&mut self, name: Text, function: Func<B, A, P>) -> Result<FuncId, AddFault>
+    fn add(&mut self, name: Text, function: Func<B, A, P, W>) -> Result<FuncId, AddFault>
         ensures answer { AddGives self.old name result }
         ensures ok { OnOk result (self.new ≡ self.old ++ (name, function) ∷ []) }
         ensures err { OnErr result (self.new ≡ self.old) }
@@ -185,13 +188,23 @@ impl<B: Drop, A: Drop, P: Drop> Registry<B, A, P> {
     {
         self.add(name, Func::Plain(f))
     }
+
+    /// Adds a function that goes around validation. A refusal leaves the registry as it was.
+    pub fn add_wrap(&mut self, name: Text, f: W) -> Result<FuncId, AddFault>
+        ensures answer { AddGives self.old name result }
+        ensures ok { OnOk result (self.new ≡ self.old ++ (name, Func.Wrap f) ∷ []) }
+        ensures err { OnErr result (self.new ≡ self.old) }
+    {
+        self.add(name, Func::Wrap(f))
+    }
 }
 
-impl<B: BeforeFn, A: AfterFn, P: PlainFn> Registry<B, A, P> {
+impl<B: BeforeFn, A: AfterFn, P: PlainFn, W: WrapFn> Registry<B, A, P, W> {
     ghost use Rattle.std.specs.Prelude.{◌≡◌, Some, option_map, IsSome, IfOk};
     ghost use Rattle.pv_notation.specs.Numbers.{HasNumbers, IsSound};
-    ghost use Rattle.pv_func.specs.Functions.{before_numbered, after_numbered, plain_numbered};
-    ghost use Rattle.pv_func.specs.Soundness.{RawIsSound, MadeIsSound};
+    ghost use Rattle.pv_func.specs.Functions.{before_numbered, after_numbered, plain_numbered, wrap_numbered};
+    ghost use Rattle.pv_func.specs.Exchange.{first_move, next_move};
+    ghost use Rattle.pv_func.specs.Soundness.{RawIsSound, MadeIsSound, OutcomeIsSound, MoveIsSound};
 
     /// What the function of this number gives for a tree. It is one that sees trees before they are validated.
     pub fn call_before(&self, alloc: Global, id: FuncId, input: &Tree) -> Result<Raw, Memory>
@@ -201,7 +214,7 @@ impl<B: BeforeFn, A: AfterFn, P: PlainFn> Registry<B, A, P> {
     {
         match self.function(id) {
             Func::Before(f) => f.call(alloc, input),
-            Func::After(_) | Func::Plain(_) => unreachable!(),
+            Func::After(_) | Func::Plain(_) | Func::Wrap(_) => unreachable!(),
         }
     }
 
@@ -213,7 +226,7 @@ impl<B: BeforeFn, A: AfterFn, P: PlainFn> Registry<B, A, P> {
     {
         match self.function(id) {
             Func::After(f) => f.call(alloc, value),
-            Func::Before(_) | Func::Plain(_) => unreachable!(),
+            Func::Before(_) | Func::Plain(_) | Func::Wrap(_) => unreachable!(),
         }
     }
 
@@ -225,7 +238,40 @@ impl<B: BeforeFn, A: AfterFn, P: PlainFn> Registry<B, A, P> {
     {
         match self.function(id) {
             Func::Plain(f) => f.call(alloc, input),
-            Func::Before(_) | Func::After(_) => unreachable!(),
+            Func::Before(_) | Func::After(_) | Func::Wrap(_) => unreachable!(),
+        }
+    }
+
+    /// The first move of an exchange about a tree with the function of this number. It is one that
+    /// goes around validation.
+    pub fn wrap_begin(&self, alloc: Global, id: FuncId, input: &Tree) -> Result<Move, Memory>
+        requires { IsSome (wrap_numbered self.now id.number) }
+        ensures value { IfOk result (λ m. option_map (λ w. first_move (W.wrapper w) input.now) (wrap_numbered self.now id.number) ≡ Some m) }
+        ensures sound { HasNumbers input.now → IfOk result MoveIsSound }
+    {
+        match self.function(id) {
+            Func::Wrap(f) => begin(f, alloc, input),
+            Func::Before(_) | Func::After(_) | Func::Plain(_) => unreachable!(),
+        }
+    }
+
+    /// The next move of an exchange that waits for an outcome, with the function and about the tree
+    /// with which it began.
+    pub fn wrap_answer(
+        &self,
+        alloc: Global,
+        id: FuncId,
+        run: WrapRun,
+        input: &Tree,
+        outcome: Outcome,
+    ) -> Result<Move, Memory>
+        requires { IsSome (wrap_numbered self.now id.number) }
+        ensures value { IfOk result (λ m. option_map (λ w. next_move (W.wrapper w) input.now run outcome) (wrap_numbered self.now id.number) ≡ Some m) }
+        ensures sound { HasNumbers input.now → HasNumbers run.state → OutcomeIsSound outcome → IfOk result MoveIsSound }
+    {
+        match self.function(id) {
+            Func::Wrap(f) => answer(f, alloc, run, input, outcome),
+            Func::Before(_) | Func::After(_) | Func::Plain(_) => unreachable!(),
         }
     }
 }

@@ -5,3 +5,6 @@ pub mod Locating
 pub mod Keeping
 pub mod GoodPatterns
 pub mod MissingFields
+pub mod Choosing
+pub mod AfterFunctions
+pub mod ChainLengths

@@ -26,10 +26,11 @@ use Rattle.pv_fault.specs.declared.Outcome.TheVariants.{Good, Bad}
 use Rattle.pv_fault.specs.Single.{error_here}
 use Rattle.pv_fault.specs.Under.{under, all_under, at_path, all_at_path}
 use Rattle.pv_fields.specs.Paths.{paths_of, path_or_name, located, front_of, place_of, extra_of}
-use Rattle.pv_fields.specs.Finding.{part_at, follow, found, found_by, found_from, found_field, is_extra, taken_paths, members_or_none, extras_in}
+use Rattle.pv_paths.specs.Following.{part_at, follow, found, found_by, found_from}
+use Rattle.pv_fields.specs.Finding.{found_field, is_extra, taken_paths, members_or_none, extras_in}
 use Rattle.pv_fields.specs.FieldList.{Given, errors_of, answer_errors, field_errors, extra_errors, all_errors, unless_errors, fields_of}
-use Rattle.pv_engine.specs.Rules.{Child}
-use Rattle.pv_engine.specs.Fields.{unfound, answer_of, child_or_none, default_or_none, answered, answers, extra_child, extra_by, extras_of, object_error, fields_in, fields}
+use Rattle.pv_walk.specs.Rules.{Child}
+use Rattle.pv_walk.specs.Fields.{unfound, answer_of, child_or_none, default_or_none, answered, answers, extra_child, extra_by, extras_of, object_error, fields_in, fields}
 use Rattle.pv_laws.specs.Located.{IsPart, IsLocated, IsOutcomeOf}
 use Rattle.pv_laws.specs.Locations.{is_any_path, keeps_fields}
 use Rattle.pv_laws.proofs.Each.{each_append, each_map, each_more, found_is}

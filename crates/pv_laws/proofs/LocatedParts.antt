@@ -19,7 +19,7 @@ use Rattle.pv_fault.specs.Under.{under, all_under}
 use Rattle.pv_equality.specs.Hashable.{hashable}
 use Rattle.pv_fault.specs.Single.{error_here}
 use Rattle.pv_collect.specs.Gathering.{Part, needs_hash, errors_of, item_errors, items_errors, key_errors, pair_errors, missing_from, missing_of}
-use Rattle.pv_engine.specs.Rules.{Child, part, placed, placed_by, pair}
+use Rattle.pv_walk.specs.Rules.{Child, part, placed, placed_by, pair}
 use Rattle.pv_laws.proofs.Each.{each_append, each_map, each_more, found_is}
 use Rattle.pv_laws.specs.Located.{IsPart, IsLacking, IsKey, IsLocated, IsOutcomeOf}
 

@@ -9,10 +9,11 @@ use Rattle.pv_rules.specs.declared.Settings.{Settings}
 use Rattle.pv_fault.specs.declared.LineError.{LineError}
 use Rattle.pv_fault.specs.declared.Outcome.{Outcome}
 use Rattle.pv_fields.specs.Paths.{paths_of, path_or_name, located, place_of, extra_of}
-use Rattle.pv_fields.specs.Finding.{follow, found, found_by, found_from, found_field, extras_in}
+use Rattle.pv_paths.specs.Following.{follow, found, found_by, found_from}
+use Rattle.pv_fields.specs.Finding.{found_field, extras_in}
 use Rattle.pv_fields.specs.FieldList.{Missing, answer_errors, field_errors, extra_errors, unless_errors, fields_of}
-use Rattle.pv_engine.specs.Rules.{Child}
-use Rattle.pv_engine.specs.Fields.{answer_of, child_or_none, default_or_none, answered, answers, extras_of, fields_in, fields}
+use Rattle.pv_walk.specs.Rules.{Child}
+use Rattle.pv_walk.specs.Fields.{answer_of, child_or_none, default_or_none, answered, answers, extras_of, fields_in, fields}
 use Rattle.pv_laws.specs.Locations.{is_any_path}
 use Rattle.pv_laws.specs.MissingFields.{HasError, IsMissing, missing_error}
 

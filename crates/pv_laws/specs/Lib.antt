@@ -3,3 +3,4 @@ pub mod Locations
 pub mod MissingFields
 pub mod Kept
 pub mod Patterns
+pub mod Outcomes

@@ -10,7 +10,7 @@ use Rattle.pv_tree.specs.Parts.{members_at}
 use Rattle.pv_fault.specs.declared.LineError.{LineError}
 use Rattle.pv_fault.specs.declared.Outcome.{Outcome}
 use Rattle.pv_fault.specs.declared.Outcome.TheVariants.{Good, Bad}
-use Rattle.pv_fields.specs.Finding.{follow}
+use Rattle.pv_paths.specs.Following.{follow}
 
 -- the step leads from a tree to a part of it: an item, or the value of a member
 abbrev pub IsPart : Step → Tree-F Tree → Tree → Type 0

@@ -13,7 +13,7 @@ use Rattle.pv_fault.specs.Single.{error_here}
 use Rattle.pv_fault.specs.Under.{at_path}
 use Rattle.pv_fields.specs.Finding.{found_field}
 use Rattle.pv_fields.specs.Paths.{place_of}
-use Rattle.pv_engine.specs.Fields.{default_or_none}
+use Rattle.pv_walk.specs.Fields.{default_or_none}
 
 -- the outcome has this error
 abbrev pub HasError : LineError → Outcome → Type 0

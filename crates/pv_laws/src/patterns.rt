@@ -10,5 +10,6 @@ ghost use Rattle.pv_laws.specs.Patterns.{HasGoodPattern};
 /// No pattern of a schema is refused exactly where each of its nodes has none or a good one.
 #[tactic(auto, using(crate::proofs::GoodPatterns::good_throughout))]
 pub fn patterns_are_good_throughout()
-    ensures { (root : Node) → (bad_pattern root ≡ None) ↔ AllByRecursion HasGoodPattern (preorder root) }
+    ensures { (root : Node)
+        → (bad_pattern root ≡ None) ↔ AllByRecursion HasGoodPattern (preorder root) }
 {}

@@ -12,7 +12,8 @@ ghost use Rattle.pv_laws.specs.Kept.{AreKept, HasNoKey};
 #[tactic(auto, using(crate::proofs::Keeping::keeps, crate::proofs::Keeping::keeps_nothing_else))]
 pub fn sets_keep_each_item_once()
     ensures kept { (values : List Value) → AreKept values (first_of_each values) }
-    ensures nothing_else { (values : List Value) (v : Value) → Contains (first_of_each values) v → Contains values v }
+    ensures nothing_else { (values : List Value) (v : Value)
+        → Contains (first_of_each values) v → Contains values v }
 {}
 
 /// The keys of a dict are kept as the items of a set are, each with the value of the last entry
@@ -22,7 +23,8 @@ pub fn sets_keep_each_item_once()
 pub fn dicts_keep_each_key_once()
     ensures keys { (entries : List (Value × Value)) →
         map (λ e. e.0) (merged_entries entries) ≡ first_of_each (map (λ e. e.0) entries) }
-    ensures values { (before : List (Value × Value)) (last : Value × Value) (after : List (Value × Value)) (kept : Value × Value) →
+    ensures values { (before : List (Value × Value)) (last : Value × Value)
+        (after : List (Value × Value)) (kept : Value × Value) →
         HasNoKey after last.0 → Contains (merged_entries (before ++ last ∷ after)) kept →
         same kept.0 last.0 ≡ true → kept.1 ≡ last.1 }
 {}

@@ -5,6 +5,8 @@ pub mod Counts
 pub mod Firsts
 pub mod Preorder
 pub mod Lending
+pub mod Few
+pub mod Found
 pub mod Clear
 pub mod Outward
 pub mod Written

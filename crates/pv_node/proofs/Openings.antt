@@ -1,31 +1,29 @@
 -- The places of a node, by those of its slots.
-use Rattle.std.proofs.Common.{◌≡◌, ℕ, ◌+◌, List, [], ◌∷◌, ◌++◌, map, drop, codes, refl, ap, sym, ◌∙◌, Option, Some, None}
+use Rattle.std.proofs.Common.{◌≡◌, ℕ, ◌+◌, List, [], ◌∷◌, ◌++◌, map, codes, refl, ap, sym, ◌∙◌, Option, Some, None}
 use Rattle.std.proofs.Math.Path.{fun_ext}
 use Rattle.std.specs.List.{flat_map}
 use Rattle.std.specs.Option.{option_map}
-use Rattle.pv_tree.specs.declared.Step.TheVariants.{Name, Index}
-use Rattle.pv_rules.specs.declared.FieldRule.{FieldRule}
+use Rattle.pv_tree.specs.declared.Step.TheVariants.{Name}
 use Rattle.pv_rules.specs.declared.Settings.{Settings}
 use Rattle.pv_node.specs.declared.node.Node.{Node, rec-roll-Node, roll-out-Node, out-Node, roll-Node, rec-Node}
 use Rattle.pv_node.specs.declared.node.Body.{Body, rec-roll-Body, roll-out-Body, roll-Body, rec-Body, map-Body}
 use Rattle.pv_node.specs.declared.node.Body.TheOpen.{Body-F, Node-F}
-use Rattle.pv_node.specs.Places.{Path, Slot, first_name, field_slots, extras_slots, position_slots, slots, slots_of, body_of, under, Place, place_at, Inside, held, held_in, body_step, node_step, places_of, places_at, places_in}
+use Rattle.pv_node.specs.declared.child_slot.Edge.{Edge}
+use Rattle.pv_node.specs.declared.child_slot.Edge.TheVariants.{Enters, Stays, Absent}
+use Rattle.pv_node.specs.Places.{Path, Slot, listed, position_path, field_path, choice_path, tag_path, extras_slots, slots, slots_of, body_of, under, Place, place_at, Inside, held, held_in, body_step, node_step, places_of, places_at, places_in}
 
 -- a step that reads the slots alone
 module _ {Y : Type 0} (v : Y → Node) (k : Node → Inside) (p : Path) (s : Settings) where
-  of_positions : (i : ℕ) (ys : List Y) → flat_map (held_in v (λ y. k (v y)) p s) (position_slots i ys) ≡ flat_map (held_in (λ n. n) k p s) (position_slots i (map v ys))
-  of_positions i [] = refl
-  of_positions i (y ∷ ys) =
-      let q = p ++ Name (codes "items_schema") ∷ Index i ∷ [] in
-      ap (λ ps. held (λ n. n) k q s (Some (v y)) ++ ps) (of_positions (i + 1) ys)
+  of_listed : (path : ℕ → Path) (edge : Edge) (i : ℕ) (ys : List Y)
+      → flat_map (held_in v (λ y. k (v y)) p s) (listed path edge i ys) ≡ flat_map (held_in (λ n. n) k p s) (listed path edge i (map v ys))
+  of_listed path edge i [] = refl
+  of_listed path edge i (y ∷ ys) = ap (λ ps. held (λ n. n) k (p ++ path i) s (Some (v y)) ++ ps) (of_listed path edge (i + 1) ys)
 
-  of_fields : (rules : List FieldRule) (ys : List Y) (o : Option Y)
-      → flat_map (held_in v (λ y. k (v y)) p s) (field_slots rules ys ++ extras_slots o) ≡ flat_map (held_in (λ n. n) k p s) (field_slots rules (map v ys) ++ extras_slots (option_map v o))
-  of_fields rules [] None = refl
-  of_fields rules [] (Some y) = refl
-  of_fields rules (y ∷ ys) o =
-      let q = p ++ Name (codes "fields") ∷ Name (first_name rules) ∷ Name (codes "schema") ∷ [] in
-      ap (λ ps. held (λ n. n) k q s (Some (v y)) ++ ps) (of_fields (drop 1 rules) ys o)
+  of_fields : (path : ℕ → Path) (edge : Edge) (i : ℕ) (ys : List Y) (o : Option Y)
+      → flat_map (held_in v (λ y. k (v y)) p s) (listed path edge i ys ++ extras_slots o) ≡ flat_map (held_in (λ n. n) k p s) (listed path edge i (map v ys) ++ extras_slots (option_map v o))
+  of_fields path edge i [] None = refl
+  of_fields path edge i [] (Some y) = refl
+  of_fields path edge i (y ∷ ys) o = ap (λ ps. held (λ n. n) k (p ++ path i) s (Some (v y)) ++ ps) (of_fields path edge (i + 1) ys o)
 
 abbrev as_inside : (Path → Settings → List Place) → Inside
 as_inside f = record { places = f }
@@ -35,16 +33,28 @@ body_natural : (X X' : Type 0) (v : X → Body) (v' : X' → Node) (k : Body →
 body_natural X X' v v' k k' (Body-F.Scalar rule) = refl
 body_natural X X' v v' k k' (Body-F.Sequence rule None) = refl
 body_natural X X' v v' k k' (Body-F.Sequence rule (Some n)) = refl
-body_natural X X' v v' k k' (Body-F.Tuple rule ns) = ap as_inside (fun_ext (λ p. fun_ext (λ s. of_positions v' k' p s 0 ns)))
+body_natural X X' v v' k k' (Body-F.Tuple rule ns) = ap as_inside (fun_ext (λ p. fun_ext (λ s. of_listed v' k' p s (position_path (codes "items_schema")) Enters 0 ns)))
 body_natural X X' v v' k k' (Body-F.Dict rule None None) = refl
 body_natural X X' v v' k k' (Body-F.Dict rule None (Some m)) = refl
 body_natural X X' v v' k k' (Body-F.Dict rule (Some n) None) = refl
 body_natural X X' v v' k k' (Body-F.Dict rule (Some n) (Some m)) = refl
 body_natural X X' v v' k k' (Body-F.Nullable n) = refl
-body_natural X X' v v' k k' (Body-F.Fields rule ns None config cls) = ap as_inside (fun_ext (λ p. fun_ext (λ s. of_fields v' k' p s rule.fields ns None)))
-body_natural X X' v v' k k' (Body-F.Fields rule ns (Some n) config cls) = ap as_inside (fun_ext (λ p. fun_ext (λ s. of_fields v' k' p s rule.fields ns (Some n))))
+body_natural X X' v v' k k' (Body-F.Fields rule ns None config cls) = ap as_inside (fun_ext (λ p. fun_ext (λ s. of_fields v' k' p s (field_path rule.fields) Enters 0 ns None)))
+body_natural X X' v v' k k' (Body-F.Fields rule ns (Some n) config cls) = ap as_inside (fun_ext (λ p. fun_ext (λ s. of_fields v' k' p s (field_path rule.fields) Enters 0 ns (Some n))))
 body_natural X X' v v' k k' (Body-F.Model cls root config n) = refl
 body_natural X X' v v' k k' (Body-F.Default d validate on_error n) = refl
+body_natural X X' v v' k k' (Body-F.Union rule ns) = ap as_inside (fun_ext (λ p. fun_ext (λ s. of_listed v' k' p s (choice_path rule.labels) Stays 0 ns)))
+body_natural X X' v v' k k' (Body-F.TaggedUnion rule ns) = ap as_inside (fun_ext (λ p. fun_ext (λ s. of_listed v' k' p s (tag_path rule.tags) Stays 0 ns)))
+body_natural X X' v v' k k' (Body-F.LaxOrStrict n m) = refl
+body_natural X X' v v' k k' (Body-F.JsonOrPython n) = refl
+body_natural X X' v v' k k' (Body-F.CustomError kind message n) = refl
+body_natural X X' v v' k k' (Body-F.Before rule n) = refl
+body_natural X X' v v' k k' (Body-F.After rule n) = refl
+body_natural X X' v v' k k' (Body-F.Wrap rule n) = refl
+body_natural X X' v v' k k' (Body-F.Plain rule) = refl
+body_natural X X' v v' k k' (Body-F.Definitions n ns) = ap as_inside (fun_ext (λ p. fun_ext (λ s.
+    ap (λ ps. held (λ n. n) k' (p ++ Name (codes "schema") ∷ []) s (Some (v' n)) ++ ps) (of_listed v' k' p s (position_path (codes "definitions")) Absent 0 ns))))
+body_natural X X' v v' k k' (Body-F.DefinitionRef name) = refl
 
 inside_body : (b : Body-F Body Node) (p : Path) (s : Settings) → (rec-Body Inside Inside body_step node_step (roll-Body b)).places p s ≡ flat_map (held_in (λ n. n) (rec-Node Inside Inside body_step node_step) p s) (slots b)
 inside_body b p s = ap (λ i. i.places p s) (rec-roll-Body Inside Inside body_step node_step body_natural b)

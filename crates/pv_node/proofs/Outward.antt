@@ -4,8 +4,8 @@ use Rattle.std.proofs.lemmas.List.{append-nil, append_assoc}
 use Rattle.std.specs.List.{flat_map, AllByRecursion}
 use Rattle.pv_rules.specs.declared.Settings.{Settings}
 use Rattle.pv_node.specs.declared.node.Node.{Node}
-use Rattle.pv_node.specs.Places.{Path, Slot, slots_of, body_of, Place, place_at, places, places_of, places_at, places_in}
-use Rattle.pv_node.specs.FieldNames.{HasFieldNames, HasNamedFields}
+use Rattle.pv_node.specs.Places.{Path, Slot, slots_of, Place, place_at, places, places_of, places_at, places_in}
+use Rattle.pv_node.specs.Allowed.{IsAllowed, AreAllowed}
 use Rattle.pv_node.specs.Preorder.{preorder}
 use Rattle.pv_node.specs.Outward.{through, trail, further, outward, settings_at}
 use Rattle.pv_node.proofs.Openings.{opens}
@@ -40,15 +40,15 @@ each_read P f (x ∷ xs) h = (h.0, each_read P f xs h.1)
 abbrev Right : Path → Node → List Node → Place → Type 0
 Right p n up place = (q : Path) × (place.path ≡ p ++ q) × ((k : ℕ) → length q ≤ k → place.settings ≡ outward (trail k n q ++ up))
 
--- places whose fields have distinct names
-abbrev IsNamed : Place → Type 0
-IsNamed place = HasFieldNames (body_of place.node)
+-- places whose nodes are allowed
+abbrev IsRight : Place → Type 0
+IsRight place = IsAllowed place.node
 
-abbrev AreNamed : List Place → Type 0
-AreNamed ps = AllByRecursion IsNamed ps
+abbrev AreRight : List Place → Type 0
+AreRight ps = AllByRecursion IsRight ps
 
 abbrev AllRight : Node → Type 0
-AllRight n = (p : Path) (up : List Node) → AreNamed (places_of p n (outward up)) → AllByRecursion (Right p n up) (places_of p n (outward up))
+AllRight n = (p : Path) (up : List Node) → AreRight (places_of p n (outward up)) → AllByRecursion (Right p n up) (places_of p n (outward up))
 
 trail_through : (k : ℕ) (n m : Node) (sp q : Path) (up : List Node) → 1 ≤ length sp → length (sp ++ q) ≤ k → through (slots_of n) (sp ++ q) ≡ Some (m, q)
     → (s : Settings) → ((j : ℕ) → length q ≤ j → s ≡ outward (trail j m q ++ (n ∷ up))) → s ≡ outward (trail k n (sp ++ q) ++ up)
@@ -60,36 +60,36 @@ trail_through (suc k) n m sp q up far l here s f =
     ∙ sym (ap (λ o. outward ((further (trail k) o ++ n ∷ []) ++ up)) here)
 
 right_at : (n : Node) (p sp : Path) (up : List Node) (o : Option Node) → OnNode AllRight o → IsFound (slots_of n) sp o → 1 ≤ length sp
-    → AreNamed (places_at (p ++ sp) (outward (n ∷ up)) o) → AllByRecursion (Right p n up) (places_at (p ++ sp) (outward (n ∷ up)) o)
-right_at n p sp up None h here far named = tt
-right_at n p sp up (Some m) h here far named =
+    → AreRight (places_at (p ++ sp) (outward (n ∷ up)) o) → AllByRecursion (Right p n up) (places_at (p ++ sp) (outward (n ∷ up)) o)
+right_at n p sp up None h here far allowed = tt
+right_at n p sp up (Some m) h here far allowed =
     each_mapped (Right (p ++ sp) m (n ∷ up)) (Right p n up)
     (λ place r. (sp ++ r.0, r.1 ∙ append_assoc p sp r.0, λ k l. trail_through k n m sp r.0 up far l (here r.0) place.settings r.2))
     (places_of (p ++ sp) m (outward (n ∷ up)))
-    (h (p ++ sp) (n ∷ up) named)
+    (h (p ++ sp) (n ∷ up) allowed)
 
 right_in : (n : Node) (p : Path) (up : List Node) (ss : List (Slot Node)) → InSlots AllRight ss → AreFound (slots_of n) ss → AreAway ss
-    → AreNamed (flat_map (places_in p (outward (n ∷ up))) ss) → AllByRecursion (Right p n up) (flat_map (places_in p (outward (n ∷ up))) ss)
-right_in n p up [] h here far named = tt
-right_in n p up (slot ∷ ss) h here far named =
+    → AreRight (flat_map (places_in p (outward (n ∷ up))) ss) → AllByRecursion (Right p n up) (flat_map (places_in p (outward (n ∷ up))) ss)
+right_in n p up [] h here far allowed = tt
+right_in n p up (slot ∷ ss) h here far allowed =
     let first = places_in p (outward (n ∷ up)) slot in
     let rest = flat_map (places_in p (outward (n ∷ up))) ss in
     each_joined (Right p n up) first rest
-    (right_at n p slot.path up slot.node h.0 here.0 far.0 (each_first IsNamed first rest named))
-    (right_in n p up ss h.1 here.1 far.1 (each_second IsNamed first rest named))
+    (right_at n p slot.path up slot.node h.0 here.0 far.0 (each_first IsRight first rest allowed))
+    (right_in n p up ss h.1 here.1 far.1 (each_second IsRight first rest allowed))
 
 first_right : (p : Path) (n : Node) (up : List Node) → Right p n up (place_at p n (outward up))
 first_right p n up = ([], sym (append-nil p), λ k l. sym (ap (λ ns. outward (ns ++ up)) (trail_here k n)))
 
 all_right : (n : Node) → AllRight n
 all_right = by_slots AllRight (λ n h p up.
-    subst (λ ps. AreNamed ps → AllByRecursion (Right p n up) ps) (sym (opens p n (outward up)))
-    (λ named. (first_right p n up, right_in n p up (slots_of n) h (found n named.0) (away n) named.1)))
+    subst (λ ps. AreRight ps → AllByRecursion (Right p n up) ps) (sym (opens p n (outward up)))
+    (λ allowed. (first_right p n up, right_in n p up (slots_of n) h (found n allowed.0) (away n) allowed.1)))
 
-pub settings_right : (root : Node) → HasNamedFields root → AllByRecursion (λ place. place.settings ≡ settings_at root place.path) (places root)
-unfolding preorder
-settings_right root named =
+pub settings_right : (root : Node) → AreAllowed root → AllByRecursion (λ place. place.settings ≡ settings_at root place.path) (places root)
+unfolding preorder AreAllowed
+settings_right root allowed =
     each_mapped (Right [] root []) (λ place. place.settings ≡ settings_at root place.path)
     (λ place r. r.2 (length r.0) (omega arith) ∙ ap outward (append-nil (trail (length r.0) root r.0)) ∙ sym (ap (settings_at root) r.1))
     (places root)
-    (all_right root [] [] (each_read (λ n. HasFieldNames (body_of n)) (λ place. place.node) (places root) named))
+    (all_right root [] [] (each_read IsAllowed (λ place. place.node) (places root) allowed))

@@ -3,4 +3,5 @@ pub mod Preorder
 pub mod Lending
 pub mod Outward
 pub mod Absent
-pub mod FieldNames
+pub mod Allowed
+pub mod References

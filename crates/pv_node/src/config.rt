@@ -22,6 +22,17 @@ impl Body {
             Body::Fields { config, .. } => config.as_ref(),
             Body::Model { config, .. } => config.as_ref(),
             Body::Default { .. } => None,
+            Body::Union { .. } => None,
+            Body::TaggedUnion { .. } => None,
+            Body::LaxOrStrict { .. } => None,
+            Body::JsonOrPython { .. } => None,
+            Body::CustomError { .. } => None,
+            Body::Before { .. } => None,
+            Body::After { .. } => None,
+            Body::Wrap { .. } => None,
+            Body::Plain { .. } => None,
+            Body::Definitions { .. } => None,
+            Body::DefinitionRef { .. } => None,
         }
     }
 }

@@ -7,7 +7,7 @@ ghost use Rattle.pv_node.specs.declared.node.Node.{Node};
 ghost use Rattle.pv_node.specs.Places.{Path, place_at, places, places_in, places_of, slots_of, under};
 ghost use Rattle.pv_node.specs.Preorder.{preorder, parts};
 ghost use Rattle.pv_node.specs.Outward.{settings_at};
-ghost use Rattle.pv_node.specs.FieldNames.{HasNamedFields};
+ghost use Rattle.pv_node.specs.Allowed.{AreAllowed};
 
 /// A place, and then all that its slots hold.
 #[tactic(auto, using(crate::proofs::Openings::opens))]
@@ -26,6 +26,6 @@ pub fn preorder_opens()
 /// finds. Fields of one node have different names, so that a path leads to one node.
 #[tactic(auto, using(crate::proofs::Outward::settings_right))]
 pub fn settings_are_in_force()
-    ensures { (root : Node) → HasNamedFields root →
+    ensures { (root : Node) → AreAllowed root →
         AllByRecursion (λ place. place.settings ≡ settings_at root place.path) (places root) }
 {}

@@ -1,7 +1,9 @@
 ghost use Rattle.std.specs.Prelude.{◌≡◌};
 ghost use Rattle.pv_node.specs.Absent.{any};
 
-use pv_rules::{FieldsRule, GatherRule, OnError, ScalarRule, Settings};
+use pv_rules::{
+    FieldsRule, FuncRule, GatherRule, OnError, ScalarRule, Settings, TagRule, UnionRule,
+};
 use pv_text::Text;
 use pv_tree::Tree;
 use sqlite_items::{Boxed, Items};
@@ -62,6 +64,59 @@ pub enum Body {
         validate_default: Option<bool>,
         on_error: OnError,
         schema: Boxed<Node>,
+    },
+    /// One of several schemas. They stand in the order of the labels of the rule.
+    Union {
+        rule: UnionRule,
+        choices: Items<Node>,
+    },
+    /// The schema whose tag the input has. They stand in the order of the tags of the rule.
+    TaggedUnion {
+        rule: TagRule,
+        choices: Items<Node>,
+    },
+    /// One schema where the node is strict, and another one where it is not.
+    LaxOrStrict {
+        lax_schema: Boxed<Node>,
+        strict_schema: Boxed<Node>,
+    },
+    /// A schema for JSON, which is all that is read here.
+    JsonOrPython {
+        json_schema: Boxed<Node>,
+    },
+    /// A schema whose errors are all replaced by one of this type.
+    CustomError {
+        error_type: Text,
+        message: Text,
+        schema: Boxed<Node>,
+    },
+    /// A function that sees the input before the schema does.
+    Before {
+        rule: FuncRule,
+        schema: Boxed<Node>,
+    },
+    /// A function that sees the value that the schema gives.
+    After {
+        rule: FuncRule,
+        schema: Boxed<Node>,
+    },
+    /// A function that runs the schema itself, where it wants to.
+    Wrap {
+        rule: FuncRule,
+        schema: Boxed<Node>,
+    },
+    /// A function in the place of a schema.
+    Plain {
+        rule: FuncRule,
+    },
+    /// A schema, and others that references in it name.
+    Definitions {
+        schema: Boxed<Node>,
+        definitions: Items<Node>,
+    },
+    /// The node of the schema that has this name.
+    DefinitionRef {
+        schema_ref: Text,
     },
 }
 

@@ -2,3 +2,4 @@ pub mod Absent
 pub mod Searching
 pub mod Placed
 pub mod Tables
+pub mod Fitting

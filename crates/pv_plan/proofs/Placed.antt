@@ -1,18 +1,21 @@
 -- The table of a schema stands for it.
-use Rattle.std.proofs.Common.{◌≡◌, ℕ, zero, suc, ◌+◌, ◌≤◌, List, [], ◌∷◌, ◌++◌, map, length, drop, Option, Some, None, slice_get, unwrap_or, is_some, true≢false, refl, ap, sym, ◌∙◌, arith}
-use Rattle.std.specs.List.{flat_map}
+use Rattle.std.proofs.Common.{◌≡◌, ℕ, zero, suc, ◌+◌, ◌≤◌, Bool, true, false, if◌then◌else◌, List, [], ◌∷◌, ◌++◌, map, length, drop, Option, Some, None, slice_get, unwrap_or, is_some, true≢false, refl, ap, sym, ◌∙◌, arith}
+use Rattle.std.specs.List.{find, flat_map}
 use Rattle.std.proofs.Math.Seq.{drop-append_seam}
 use Rattle.std.proofs.lemmas.List.{append_assoc, append-nil}
 use Rattle.std.proofs.lemmas.Grind.{flat_map-append}
 use Rattle.pv_rules.specs.Settings.{plain}
 use Rattle.pv_node.specs.declared.Node.{Node}
-use Rattle.pv_node.specs.Places.{Path, Slot, Place, place_at, places, places_at, places_in, root_place, slots_of}
-use Rattle.pv_node.specs.Preorder.{node_count, count_at}
+use Rattle.pv_node.specs.Places.{Path, Slot, Place, place_at, places, places_at, places_in, root_place, body_of, slots_of}
+use Rattle.pv_node.specs.Preorder.{node_count, count_at, preorder}
+use Rattle.pv_node.specs.References.{has_name, place_named}
 use Rattle.pv_node.proofs.Openings.{opens}
 use Rattle.pv_node.proofs.Counts.{count_placed}
+use Rattle.pv_references.specs.Targets.{reference_of}
+use Rattle.pv_references.specs.Numbers.{number_from, number_named}
 use Rattle.pv_plan.proofs.Absent.{no_slots}
-use Rattle.pv_plan.specs.Records.{Stands, all_places, any_place, place_under, child_at}
-use Rattle.pv_plan.specs.Layout.{number_of, numbers, record_at, table_from, table_of}
+use Rattle.pv_plan.specs.Records.{Stands, all_places, any_place, place_under, place_or_any, child_at, children_by, target}
+use Rattle.pv_plan.specs.Layout.{number_of, numbers, children_at, record_at, table_from, table_of}
 
 -- a place and those inside it
 abbrev whole : Place → List Place
@@ -101,6 +104,21 @@ module _ (all : List Place) (last : ℕ) (absent : slice_get all last ≡ Some a
       ap (λ o. o ∷ map (slice_get all) (numbers last (at + count_at slot.node) ss)) here.0
       ∙ ap (λ os. Some (child_at q slot) ∷ os) (following (at + count_at slot.node) ss rest here.1)
 
+-- the number of a name leads to the place that has it
+module _ (all : List Place) (last : ℕ) (absent : slice_get all last ≡ Some any_place) (name : List ℕ) where
+  led_by : (b : Bool) (at : ℕ) (p : Place) (number : Option ℕ) (found : Option Place) → slice_get all at ≡ Some p
+      → slice_get all (unwrap_or number last) ≡ Some (place_or_any found)
+      → slice_get all (unwrap_or (if b then Some at else number) last) ≡ Some (place_or_any (if b then Some p else found))
+  led_by true at p number found here rest = here
+  led_by false at p number found here rest = rest
+
+  led : (at : ℕ) (ps rest : List Place) → drop at all ≡ ps ++ rest
+      → slice_get all (unwrap_or (number_from at name (map (λ p. p.node) ps)) last) ≡ Some (place_or_any (find (λ p. has_name name p.node) ps))
+  led at [] rest e = absent
+  led at (p ∷ ps) rest e =
+      led_by (has_name name p.node) at p (number_from (at + 1) name (map (λ q. q.node) ps)) (find (λ q. has_name name q.node) ps) (head all at p (ps ++ rest) e)
+      (led (at + 1) ps rest (past all at (p ∷ []) (ps ++ rest) e))
+
 numbered : (root : Node) (last at : ℕ) (ps : List Place) (i : ℕ) (q : Place) → slice_get ps i ≡ Some q → slice_get (table_from root last at ps) i ≡ Some (record_at root last (at + i) q)
 unfolding table_from
 numbered root last at [] i q e = absurd (true≢false (sym (ap is_some e)))
@@ -121,6 +139,17 @@ module _ (root : Node) where
   unfolding node_count
   absent_is = head (all_places root) (length (places root)) any_place [] (drop-append_seam (places root) (any_place ∷ []))
 
+  named : (name : List ℕ) → slice_get (all_places root) (number_named root (node_count root) name) ≡ Some (target root name)
+  unfolding preorder place_named
+  named name = led (all_places root) (node_count root) absent_is name 0 (places root) (any_place ∷ []) refl
+
+  abbrev Leads : ℕ → Place → Option (List ℕ) → Type 0
+  Leads i q o = map (slice_get (all_places root)) (children_at root (node_count root) (i + 1) q o) ≡ map Some (children_by root q o)
+
+  leading : (i : ℕ) (q : Place) (rest : List Place) → drop (i + 1) (all_places root) ≡ all_of (kids q (slots_of q.node)) ++ rest → (o : Option (List ℕ)) → Leads i q o
+  leading i q rest e None = following (all_places root) (node_count root) absent_is q (i + 1) (slots_of q.node) rest e
+  leading i q rest e (Some name) = ap (λ o. o ∷ []) (named name)
+
   pub stands : Stands root (table_of root)
   unfolding Stands table_of
   stands i q e =
@@ -132,5 +161,5 @@ module _ (root : Node) where
       let same : 0 + i ≡ i = omega arith in (
         record_at root (node_count root) i q,
         numbered root (node_count root) 0 (all_places root) i q e ∙ ap (λ k. Some (record_at root (node_count root) k q)) same,
-        record { op = refl; children = following (all_places root) (node_count root) absent_is q (i + 1) (slots_of q.node) at.0 inside; strict = refl; validate_default = refl },
+        record { op = refl; children = leading i q at.0 inside (reference_of (body_of q.node)); strict = refl; validate_default = refl },
       )

@@ -1,5 +1,5 @@
 -- Tables grow at their ends.
-use Rattle.std.proofs.Common.{◌≡◌, ℕ, zero, suc, ◌+◌, ◌-◌, ◌<◌, false, List, [], ◌∷◌, ◌++◌, length, take, drop, slice_get, slice_set, Option, Some, None, is_some, true≢false, unwrap_or, refl, ap, sym, ◌∙◌, arith}
+use Rattle.std.proofs.Common.{◌≡◌, ℕ, suc, ◌+◌, ◌-◌, ◌<◌, false, List, [], ◌∷◌, ◌++◌, length, take, drop, slice_get, slice_set, true, Option, Some, None, is_some, true≢false, refl, ap, sym, ◌∙◌, arith}
 use Rattle.std.specs.List.{flat_map}
 use Rattle.std.specs.Option.{option_or}
 use Rattle.std.proofs.lemmas.List.{length-append, append-nil, append_assoc, set-append_right}
@@ -8,49 +8,20 @@ use Rattle.pv_rules.specs.Settings.{plain}
 use Rattle.pv_rules.specs.declared.Settings.{Settings}
 use Rattle.pv_rules.specs.declared.ScalarRule.TheVariants as rule
 use Rattle.pv_node.specs.declared.Node.{Node}
-use Rattle.pv_node.specs.Places.{Path, Slot, Place, place_at, places, places_at, places_of, places_in, under, slots_of}
+use Rattle.pv_node.specs.Places.{Path, Slot, Place, place_at, places, places_at, places_of, places_in, under, body_of, slots, slots_of}
+use Rattle.pv_node.specs.declared.Body.{Body}
+use Rattle.pv_node.specs.declared.Body.TheOpen.{Body-F}
 use Rattle.pv_node.specs.Preorder.{node_count, count_at, slots_count, first_in}
 use Rattle.pv_node.proofs.Openings.{opens}
 use Rattle.pv_node.proofs.Counts.{count_inside, count_first}
+use Rattle.pv_references.specs.Targets.{reference_of}
+use Rattle.pv_references.proofs.Lists.{take_here, drop_here, take_past, drop_past, get_behind}
 use Rattle.pv_plan.specs.declared.record.Op.TheVariants as op
 use Rattle.pv_plan.specs.declared.record.Record.{Record}
 use Rattle.pv_plan.specs.Records.{any_place, all_places}
 use Rattle.pv_plan.specs.BadPatterns.{bad_in}
 use Rattle.pv_plan.proofs.Absent.{any_record}
-use Rattle.pv_plan.specs.Layout.{number_of, numbers, record_with, record_at, table_from, table_of}
-
-module _ {X : Type 0} where
-  -- a list to the item of a number, and from it on
-  pub take_here : (xs : List X) (i : ℕ) (x : X) → slice_get xs i ≡ Some x → take (i + 1) xs ≡ take i xs ++ x ∷ []
-  take_here [] i x e = absurd (true≢false (sym (ap is_some e)))
-  take_here (y ∷ xs) zero x e = ap (λ z. z ∷ []) (ap (λ o. unwrap_or o y) e)
-  take_here (y ∷ xs) (suc i) x e =
-      let next : suc i + 1 ≡ suc (i + 1) = omega arith in
-      ap (λ k. take k (y ∷ xs)) next ∙ ap (λ zs. y ∷ zs) (take_here xs i x e)
-
-  pub drop_here : (xs : List X) (i : ℕ) (x : X) → slice_get xs i ≡ Some x → drop i xs ≡ x ∷ drop (i + 1) xs
-  drop_here [] i x e = absurd (true≢false (sym (ap is_some e)))
-  drop_here (y ∷ xs) zero x e = ap (λ z. z ∷ xs) (ap (λ o. unwrap_or o y) e)
-  drop_here (y ∷ xs) (suc i) x e =
-      let next : suc i + 1 ≡ suc (i + 1) = omega arith in
-      drop_here xs i x e ∙ sym (ap (λ k. x ∷ drop k (y ∷ xs)) next)
-
-  pub take_past : (xs : List X) (i : ℕ) → slice_get xs i ≡ None → take i xs ≡ xs
-  take_past [] zero e = refl
-  take_past [] (suc i) e = refl
-  take_past (x ∷ xs) zero e = absurd (true≢false (ap is_some e))
-  take_past (x ∷ xs) (suc i) e = ap (λ ys. x ∷ ys) (take_past xs i e)
-
-  pub drop_past : (xs : List X) (i : ℕ) → slice_get xs i ≡ None → drop i xs ≡ []
-  drop_past [] zero e = refl
-  drop_past [] (suc i) e = refl
-  drop_past (x ∷ xs) zero e = absurd (true≢false (ap is_some e))
-  drop_past (x ∷ xs) (suc i) e = drop_past xs i e
-
-  -- the first behind some others
-  pub get_behind : (xs : List X) (x : X) (ys : List X) → slice_get (xs ++ x ∷ ys) (length xs) ≡ Some x
-  get_behind [] x ys = refl
-  get_behind (y ∷ xs) x ys = get_behind xs x ys
+use Rattle.pv_plan.specs.Layout.{number_of, numbers, target_number, children_at, record_with, record_at, table_from, table_of}
 
 -- past a slot without a bad pattern
 pub first_more : (ss : List (Slot Node)) (i : ℕ) (slot : Slot Node) (whole : Option Path) → slice_get ss i ≡ Some slot → bad_in slot ≡ None
@@ -134,14 +105,43 @@ module _ (root : Node) (last : ℕ) where
       let all = length_laid mid table ps f in
       omega (arith, place, size, all)
 
+  -- the numbers of the children, those of child schemas first, and then that of a reference
+  children_told : (at : ℕ) (q : Place) (o : Option (List ℕ)) (ss : List (Slot Node)) → slots_of q.node ≡ ss → (is_some o ≡ true → ss ≡ [])
+      → numbers last at ss ++ target_number root last o ≡ children_at root last at q o
+  children_told at q None ss e alone = append-nil (numbers last at ss) ∙ sym (ap (numbers last at) e)
+  children_told at q (Some name) ss e alone = ap (λ xs. numbers last at xs ++ target_number root last (Some name)) (alone refl)
+
+  -- a reference has no child schemas
+  pub alone : (b : Body-F Body Node) → is_some (reference_of b) ≡ true → slots b ≡ []
+  alone (Body-F.DefinitionRef name) e = refl
+  alone (Body-F.Scalar r) e = refl
+  alone (Body-F.Plain r) e = refl
+  alone (Body-F.Sequence r items) e = absurd (true≢false (sym e))
+  alone (Body-F.Tuple r items) e = absurd (true≢false (sym e))
+  alone (Body-F.Dict r keys values) e = absurd (true≢false (sym e))
+  alone (Body-F.Nullable inner) e = absurd (true≢false (sym e))
+  alone (Body-F.Fields r fields extras config cls) e = absurd (true≢false (sym e))
+  alone (Body-F.Model cls root config inner) e = absurd (true≢false (sym e))
+  alone (Body-F.Default default validates failing inner) e = absurd (true≢false (sym e))
+  alone (Body-F.Union r choices) e = absurd (true≢false (sym e))
+  alone (Body-F.TaggedUnion r choices) e = absurd (true≢false (sym e))
+  alone (Body-F.LaxOrStrict lax strict) e = absurd (true≢false (sym e))
+  alone (Body-F.JsonOrPython json) e = absurd (true≢false (sym e))
+  alone (Body-F.CustomError kind message inner) e = absurd (true≢false (sym e))
+  alone (Body-F.Before r inner) e = absurd (true≢false (sym e))
+  alone (Body-F.After r inner) e = absurd (true≢false (sym e))
+  alone (Body-F.Wrap r inner) e = absurd (true≢false (sym e))
+  alone (Body-F.Definitions inner definitions) e = absurd (true≢false (sym e))
+
   -- a record that is completed once what follows it is laid
-  pub laid : (p : Path) (s t : Settings) (n : Node) (old mid table new : List Record) (at : ℕ) (none cs : List ℕ) → t ≡ under n s → at ≡ length old
+  pub laid : (p : Path) (s t : Settings) (n : Node) (old mid table new : List Record) (at : ℕ) (none some cs : List ℕ) → t ≡ under n s → at ≡ length old
       → mid ≡ old ++ record_with root (length old) (record { path = p; node = n; settings = t }) [] ∷ []
-      → table ≡ mid ++ table_from root last (length mid) (flat_map (places_in p t) (slots_of n)) → none ≡ [] → cs ≡ none ++ numbers last (length mid) (slots_of n)
+      → table ≡ mid ++ table_from root last (length mid) (flat_map (places_in p t) (slots_of n)) → none ≡ [] → some ≡ none ++ numbers last (length mid) (slots_of n)
+      → cs ≡ some ++ target_number root last (reference_of (body_of n))
       → ((r : Record) → slice_get table at ≡ Some r → new ≡ slice_set table at (record { op = r.op; children = cs; strict = r.strict; validate_default = r.validate_default }))
       → new ≡ old ++ table_from root last (length old) (places_of p n s)
   unfolding table_from
-  laid p s t n old mid table new at none cs force place begun grown empty num g =
+  laid p s t n old mid table new at none some cs force place begun grown empty num target g =
       let here = place_at p n s in
       let inner = flat_map (places_in p (under n s)) (slots_of n) in
       let e : mid ≡ old ++ record_with root (length old) here [] ∷ [] = begun ∙ ap (λ u. old ++ record_with root (length old) (record { path = p; node = n; settings = u }) [] ∷ []) force in
@@ -153,7 +153,10 @@ module _ (root : Node) (last : ℕ) where
       f ∙ ap (λ k. mid ++ table_from root last k inner) size ∙ ap (λ t. t ++ rest) e ∙ append_assoc old (bare ∷ []) _ in
       let found : slice_get table at ≡ Some bare = ap (slice_get table) place ∙ ap (λ t. slice_get t (length old)) whole ∙ get_behind old bare rest in
       let same : length old - length old ≡ 0 = omega arith in
-      let numbered : cs ≡ numbers last (length old + 1) (slots_of n) = num ∙ ap (λ ks. ks ++ numbers last (length mid) (slots_of n)) empty ∙ ap (λ k. numbers last k (slots_of n)) size in
+      let numbered : cs ≡ children_at root last (length old + 1) here (reference_of (body_of n)) =
+      target ∙ ap (λ ks. ks ++ target_number root last (reference_of (body_of n)))
+      (num ∙ ap (λ ks. ks ++ numbers last (length mid) (slots_of n)) empty ∙ ap (λ k. numbers last k (slots_of n)) size)
+      ∙ children_told (length old + 1) here (reference_of (body_of n)) (slots_of n) refl (alone (body_of n)) in
       g bare found
       ∙ ap (λ k. slice_set table k (record_with root (length old) here cs)) place
       ∙ ap (λ t. slice_set t (length old) (record_with root (length old) here cs)) whole
@@ -170,12 +173,12 @@ pub counted : (root seen : Node) (table : List Record) → table ≡ table_of se
 counted root seen table e f = ap length e ∙ length-table_of seen ∙ ap (λ n. node_count n + 1) f
 
 -- the records of all places, and one more
-pub finished : (root : Node) (mid table new : List Record) (last : ℕ) (s : Settings) (r : Record) → mid ≡ [] → last ≡ node_count root → s ≡ plain
-    → table ≡ mid ++ table_from root last (length mid) (places_of [] root s)
+pub finished : (root seen : Node) (mid table new : List Record) (last : ℕ) (s : Settings) (r : Record) → seen ≡ root → mid ≡ [] → last ≡ node_count root → s ≡ plain
+    → table ≡ mid ++ table_from seen last (length mid) (places_of [] root s)
     → r ≡ record { op = op.Scalar (rule.Any, plain); children = []; strict = false; validate_default = false } → new ≡ table ++ r ∷ [] → new ≡ table_of root
 unfolding table_of table_from node_count
-finished root mid table new last s r none count bare e f g =
+finished root seen mid table new last s r same none count bare e f g =
     let nodes = places root in
-    g ∙ ap (λ t. t ++ r ∷ []) (e ∙ ap (λ m. m ++ table_from root last (length m) (places_of [] root s)) none ∙ ap (λ t. table_from root last 0 (places_of [] root t)) bare ∙ ap (λ k. table_from root k 0 nodes) count)
+    g ∙ ap (λ t. t ++ r ∷ []) (e ∙ ap (λ x. mid ++ table_from x last (length mid) (places_of [] root s)) same ∙ ap (λ m. m ++ table_from root last (length m) (places_of [] root s)) none ∙ ap (λ t. table_from root last 0 (places_of [] root t)) bare ∙ ap (λ k. table_from root k 0 nodes) count)
     ∙ ap (λ x. table_from root (length nodes) 0 nodes ++ x ∷ []) (f ∙ sym (any_record root (length nodes) (0 + length nodes)))
     ∙ sym (table-append root (length nodes) 0 nodes (any_place ∷ []))

@@ -4,8 +4,10 @@ use Rattle.std.specs.Prelude.{◌≡◌, ℕ, ◌+◌, false, List, [], ◌∷�
 use Rattle.pv_rules.specs.Settings.{plain}
 use Rattle.pv_rules.specs.declared.ScalarRule.TheVariants as rule
 use Rattle.pv_node.specs.declared.Node.{Node}
-use Rattle.pv_node.specs.Places.{Slot, Place, slots_of}
+use Rattle.pv_node.specs.Places.{Slot, Place, body_of, slots_of}
 use Rattle.pv_node.specs.Preorder.{count_at, node_count}
+use Rattle.pv_references.specs.Numbers.{number_named}
+use Rattle.pv_references.specs.Targets.{reference_of}
 use Rattle.pv_plan.specs.Records.{op_at, own_strict, own_validates, all_places}
 use Rattle.pv_plan.specs.declared.record.Op.TheVariants as op
 use Rattle.pv_plan.specs.declared.record.Record.{Record}
@@ -22,6 +24,17 @@ numbers last at [] = []
 numbers last at (slot ∷ ss) =
     number_of last at slot.node ∷ numbers last (at + count_at slot.node) ss
 
+-- the number of the node that a node refers to, where it is a reference
+abbrev pub target_number : Node → ℕ → Option (List ℕ) → List ℕ
+target_number root last None = []
+target_number root last (Some name) = number_named root last name ∷ []
+
+-- the numbers of the places that a place leads to, by the name that it refers to, where it is a
+-- reference; its child schemas stand one after another, the first at this number
+abbrev pub children_at : Node → ℕ → ℕ → Place → Option (List ℕ) → List ℕ
+children_at root last at place None = numbers last at (slots_of place.node)
+children_at root last at place (Some name) = number_named root last name ∷ []
+
 -- the record of a place, by its number and by the numbers of its children
 abbrev pub record_with : Node → ℕ → Place → List ℕ → Record
 record_with root at place children = record {
@@ -34,7 +47,8 @@ record_with root at place children = record {
 -- the record of a place that has this number; its children stand behind it
 abbrev pub record_at : Node → ℕ → ℕ → Place → Record
 record_at root last at place =
-    record_with root at place (numbers last (at + 1) (slots_of place.node))
+    record_with root at place
+    (children_at root last (at + 1) place (reference_of (body_of place.node)))
 
 -- the records of places that stand one after another, the first at this number
 unfoldable pub table_from : Node → ℕ → ℕ → List Place → List Record

@@ -2,11 +2,12 @@
 
 ghost use Rattle.std.specs.Prelude.{◌≡◌, ◌<◌, [], ◌∷◌, ◌++◌, length, slice_get, slice_set, IfOk, OnOk, None, Some};
 ghost use Rattle.std.specs.List.{flat_map};
-ghost use Rattle.pv_node.specs.Places.{Path, places_in, places_of, slots_of};
+ghost use Rattle.pv_node.specs.Places.{Path, body_of, places_in, places_of, slots_of};
 ghost use Rattle.pv_node.specs.Preorder.{first_in};
 ghost use Rattle.pv_node.specs.Lending.{lent};
+ghost use Rattle.pv_references.specs.Targets.{reference_of};
 ghost use Rattle.pv_plan.specs.declared.record.Record.{Record as RecordValue};
-ghost use Rattle.pv_plan.specs.Layout.{Grows, number_of, numbers, record_with, with_children};
+ghost use Rattle.pv_plan.specs.Layout.{Grows, number_of, numbers, record_with, target_number, with_children};
 ghost use Rattle.pv_plan.specs.BadPatterns as spec;
 ghost use Rattle.pv_plan.specs.BadPatterns.{bad_in, bad_itself, has_bad_pattern};
 ghost use Rattle.pv_plan.specs.Faults.{Finds};
@@ -15,22 +16,10 @@ use crate::faults::{BuildFault, under_slot};
 use crate::operations::{operation, validates};
 use crate::record::Record;
 use pv_node::{ChildSlot, Node};
+use pv_references::{Names, number, reference};
 use pv_rules::Settings;
-use pv_text::Memory;
 use sqlite_items::Items;
 use std::alloc::Global;
-
-/// The number of the record at this place. A schema has few enough nodes for each to have one; a
-/// place that has none is refused as want of memory.
-pub(crate) fn number(place: usize) -> Result<u32, Memory>
-    ensures { IfOk result (λ n. n ≡ place) }
-{
-    if place <= 4_294_967_295 {
-        Ok(place as u32)
-    } else {
-        Err(Memory)
-    }
-}
 
 /// How many records there are.
 fn size(table: &Vec<Record>) -> usize
@@ -64,14 +53,13 @@ fn add(all: &mut Items<u32>, number: u32) -> Result<(), BuildFault>
 #[derive(Clone, Copy)]
 pub(crate) struct Laying<'a> {
     pub(crate) alloc: Global,
-    pub(crate) root: &'a Node,
+    pub(crate) names: &'a Names<'a>,
     pub(crate) last: u32,
 }
 
 impl Laying<'_> {
     /// Lays the record of a node whose children are still to be laid, by the settings in force in
-    /// the node. Big values stay out of the
-    /// frames of the recursion, here and in [`settle`].
+    /// the node. Big values stay out of the frames of the recursion, here and in [`settle`].
     #[inline(never)]
     fn reserve(
         &self,
@@ -80,7 +68,7 @@ impl Laying<'_> {
         settings: &Settings,
     ) -> Result<(), BuildFault>
         ensures table { OnOk result ((p : Path) → table.new.items ≡ table.old.items
-            ++ record_with self.now.root.now (length table.old.items)
+            ++ record_with self.now.names.now (length table.old.items)
             (record { path = p; node = node.now; settings = settings.now }) [] ∷ []) }
         ensures pattern { Finds result (bad_itself (has_bad_pattern node.now)) }
     {
@@ -98,6 +86,18 @@ impl Laying<'_> {
         }
     }
 
+    /// Adds the number of the node that a node refers to, where it is a reference.
+    fn add_target(&self, node: &Node, all: &mut Items<u32>) -> Result<(), BuildFault>
+        ensures number { OnOk result (all.new ≡ all.old
+            ++ target_number self.now.names.now self.now.last (reference_of (body_of node.now))) }
+        ensures pattern { Finds result None }
+    {
+        match reference(&node.body) {
+            None => Ok(()),
+            Some(name) => add(all, self.names.number(name, self.last)),
+        }
+    }
+
     /// Lays a node and all inside it, and gives its number. The settings are those in force around
     /// it.
     #[cycle(lay)]
@@ -108,7 +108,7 @@ impl Laying<'_> {
         node: &Node,
         settings: &Settings,
     ) -> Result<u32, BuildFault>
-        ensures table { OnOk result ((p : Path) → Grows self.now.root.now self.now.last
+        ensures table { OnOk result ((p : Path) → Grows self.now.names.now self.now.last
             table.old.items table.new.items (places_of p node.now settings.now)) }
         ensures number { IfOk result (λ n. n ≡ length table.old.items) }
         ensures pattern { Finds result (spec.bad_pattern node.now) }
@@ -119,11 +119,13 @@ impl Laying<'_> {
         self.reserve(table, node, inside)?;
         let mut children = Items::new(self.alloc);
         self.lay_children(table, node, inside, &mut children)?;
+        self.add_target(node, &mut children)?;
         settle(table, at, children);
         Ok(own)
     }
 
-    /// Lays the child schemas of a node by the settings in force in it, and adds their numbers to `all`.
+    /// Lays the child schemas of a node by the settings in force in it, and adds their numbers to
+    /// `all`.
     #[cycle(lay)]
     fn lay_children(
         &self,
@@ -132,8 +134,9 @@ impl Laying<'_> {
         settings: &Settings,
         all: &mut Items<u32>,
     ) -> Result<(), BuildFault>
-        ensures table { OnOk result ((p : Path) → Grows self.now.root.now self.now.last
-            table.old.items table.new.items (flat_map (places_in p settings.now) (slots_of node.now))) }
+        ensures table { OnOk result ((p : Path) → Grows self.now.names.now self.now.last
+            table.old.items table.new.items
+            (flat_map (places_in p settings.now) (slots_of node.now))) }
         ensures numbers { OnOk result (all.new ≡ all.old
             ++ numbers self.now.last (length table.old.items) (slots_of node.now)) }
         ensures pattern { Finds result (first_in bad_in (slots_of node.now)) }
@@ -157,7 +160,7 @@ impl Laying<'_> {
         settings: &Settings,
         all: &mut Items<u32>,
     ) -> Result<(), BuildFault>
-        ensures table { OnOk result ((p : Path) → Grows self.now.root.now self.now.last
+        ensures table { OnOk result ((p : Path) → Grows self.now.names.now self.now.last
             table.old.items table.new.items (places_in p settings.now (lent slot.now))) }
         ensures number { OnOk result (all.new ≡ all.old
             ++ number_of self.now.last (length table.old.items) (lent slot.now).node ∷ []) }

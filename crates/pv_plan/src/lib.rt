@@ -3,6 +3,7 @@
 
 mod building;
 mod faults;
+mod functions;
 mod laws;
 mod laying;
 mod operations;

@@ -6,6 +6,7 @@ use crate::fields_rule::{AliasRule, FieldRule, FieldsRule};
 use crate::literal::{EnumMember, Literal};
 use crate::scalar_rule::{EnumRule, ScalarRule, StrRule, UrlRule};
 use crate::settings::Settings;
+use crate::union_rule::TagRule;
 use pv_text::{Memory, Text};
 use pv_tree::{Loc, Names, Row};
 use sqlite_items::Items;
@@ -232,6 +233,18 @@ impl FieldsRule {
             kind: self.kind,
             fields: copy_fields(alloc, self.fields.as_slice())?,
             extra_behavior: self.extra_behavior,
+        })
+    }
+}
+
+impl TagRule {
+    /// An equal rule.
+    pub fn copy(&self, alloc: Global) -> Result<TagRule, Memory>
+        ensures { IfOk result (λ copied. copied ≡ self.now) }
+    {
+        Ok(TagRule {
+            discriminator: self.discriminator.copy(alloc)?,
+            tags: copy_names(alloc, self.tags.as_slice())?,
         })
     }
 }

@@ -10,7 +10,7 @@ use Rattle.pv_rules.specs.declared.FieldsKind.{FieldsKind}
 use Rattle.pv_rules.specs.declared.FieldsKind.TheVariants as fields
 use Rattle.pv_rules.specs.declared.OnError.{OnError}
 use Rattle.pv_rules.specs.declared.Settings.{Settings}
-use Rattle.std.specs.Prelude.{not, ◌&&◌, ◌||◌, unwrap_or}
+use Rattle.std.specs.Prelude.{codes, not, ◌&&◌, ◌||◌, unwrap_or, IfOk}
 use Rattle.pv_schema.proofs.AllowedFields.{are_fields, nodes_are}
 use Rattle.pv_rules.specs.declared.SubType.{SubType}
 use Rattle.pv_rules.specs.declared.EnumMember.{EnumMember}
@@ -21,39 +21,46 @@ use Rattle.pv_rules.specs.declared.ScalarRule.TheVariants as rule
 use Rattle.pv_node.specs.declared.Node.{Node, roll-Node, out-roll-Node}
 use Rattle.pv_node.specs.declared.Body.{Body, out-Body, roll-Body, out-roll-Body}
 use Rattle.pv_node.specs.declared.Body.TheVariants as body
-use Rattle.pv_node.specs.declared.Body.TheVariants.{rolls-Scalar, rolls-Sequence, rolls-Tuple, rolls-Dict, rolls-Nullable, rolls-Fields, rolls-Model, rolls-Default}
+use Rattle.pv_node.specs.declared.Body.TheVariants.{rolls-Scalar, rolls-Sequence, rolls-Tuple, rolls-Dict, rolls-Nullable, rolls-Fields, rolls-Model, rolls-Default, rolls-Union, rolls-TaggedUnion, rolls-LaxOrStrict, rolls-JsonOrPython, rolls-CustomError, rolls-Before, rolls-After, rolls-Wrap, rolls-Plain, rolls-Definitions, rolls-DefinitionRef}
 use Rattle.pv_node.specs.declared.Body.TheOpen.{Body-F}
-use Rattle.pv_node.specs.Places.{slots}
+use Rattle.pv_node.specs.Places.{slots, position_path, choice_path, tag_path}
+use Rattle.pv_node.specs.declared.Edge.TheVariants.{Enters, Stays, Absent}
 use Rattle.pv_node.specs.Preorder.{preorder, optional, written}
-use Rattle.pv_node.proofs.Written.{positions_written}
+use Rattle.pv_node.proofs.Written.{listed_written}
 use Rattle.pv_node.proofs.Preorder.{preorder_opens}
 use Rattle.std.proofs.lemmas.List.{append-nil}
 use Rattle.pv_tree.specs.Parts.{items_at}
 use Rattle.pv_node.specs.Absent.{or_any}
-use Rattle.pv_schema_values.specs.Values.{is_false, flag_of, text_of, extra_behavior_of, is_value, literals_of, members_of, count_of, sub_type_of}
+use Rattle.pv_schema_values.specs.Values.{is_false, flag_of, text_of, extra_behavior_of, is_value, literals_of, members_of, count_of, sub_type_of, alias_of, union_mode_of}
 use Rattle.pv_schema_values.specs.declared.ValueKind.{ValueKind}
 use Rattle.pv_schema_values.specs.declared.ValueKind.TheVariants as value
-use Rattle.pv_schema.specs.Find.{find}
-use Rattle.pv_schema.specs.Keys.{text, itself, tree_at}
-use Rattle.pv_schema.specs.Table.{ObjectRow, TypeRow, keys, kind_under, node_types, field_types, config, config_test, enum_test, tuple_test}
-use Rattle.pv_schema.specs.Checking.{is_absent, misfit, misfits, fits, is_below, are_of, all_are_of, items_size, size_of}
-use Rattle.pv_schema.specs.Making.{made, nodes_in, body_in, part_at, node_made, fields_body, field_in}
+use Rattle.pv_schema_check.specs.Find.{find, itself, tree_at}
+use Rattle.pv_schema_check.specs.ObjectTypes.{where_built}
+use Rattle.pv_schema_table.specs.Keys.{text}
+use Rattle.pv_schema_table.specs.Table.{ObjectRow, TypeRow, keys, kind_under, node_types, field_types, config, config_test, enum_test, tuple_test}
+use Rattle.pv_schema_check.specs.Checking.{is_absent, misfit, misfits, fits, is_below, are_of, items_size, size_of}
+use Rattle.pv_schema.specs.Making.{made, nodes_in, body_in, part_at, node_made, fields_body, union_body, tagged_body, field_in}
+use Rattle.pv_schema.specs.Choices.{choice_schemas, tag_rule, tagged_schemas, union_rule}
+use Rattle.pv_schema.proofs.AllowedChoices.{is_union, schemas_are, is_tagged, tagged_are}
 use Rattle.pv_schema.specs.Written.{or_empty, read, flag_or}
 use Rattle.pv_schema.specs.Fields.{fields_rule, field_schemas}
 use Rattle.pv_schema.specs.Configs.{settings, titled}
-use Rattle.pv_schema.specs.NodeRules.{gather_rule, tuple_rule, enum_rule}
-use Rattle.pv_schema.specs.Allowed.{HasItems, IsAllowed, IsAllowedBody, IsAllowedRule, IsSequence, IsEnum, AreBounds, HasNoPositions, AreSettings}
-use Rattle.pv_schema.specs.declared.kind.Kind.TheVariants as kind
-use Rattle.pv_schema.specs.declared.key.Key.{Key}
-use Rattle.pv_schema.specs.declared.key.Key.TheVariants as key
-use Rattle.pv_schema.specs.declared.row.Test.{Test}
-use Rattle.pv_schema.specs.declared.row.Fit.TheVariants as fit
-use Rattle.pv_schema.specs.declared.row.Makes.TheVariants as makes
-use Rattle.pv_schema.specs.declared.node_type.NodeType.{NodeType}
-use Rattle.pv_schema.specs.declared.node_type.NodeType.TheVariants as node
+use Rattle.pv_schema.specs.NodeRules.{gather_rule, tuple_rule, enum_rule, func_rule}
+use Rattle.pv_rules.specs.Allowed.{HasItems, IsAllowedRule, IsSequence, IsEnum, AreBounds, HasNoPositions, AreSettings}
+use Rattle.pv_rules.specs.Members.{all_are_of}
+use Rattle.pv_node.specs.Allowed.{IsAllowed, IsAllowedBody, IsNamed}
+use Rattle.pv_schema_table.specs.declared.Kind.TheVariants as kind
+use Rattle.pv_schema_table.specs.declared.Key.{Key}
+use Rattle.pv_schema_table.specs.declared.Key.TheVariants as key
+use Rattle.pv_schema_table.specs.declared.Test.{Test}
+use Rattle.pv_schema_table.specs.declared.Fit.TheVariants as fit
+use Rattle.pv_schema_table.specs.declared.Makes.{Makes}
+use Rattle.pv_schema_table.specs.declared.Makes.TheVariants as makes
+use Rattle.pv_schema_table.specs.declared.NodeType.{NodeType}
+use Rattle.pv_schema_table.specs.declared.NodeType.TheVariants as node
 use Rattle.pv_schema.proofs.MakeOpens.{nodes_open}
 use Rattle.pv_schema.proofs.AllowedValues.{AreMembers, or_empty_is, counts, versions, positives, texts, literals, members, aliases}
-use Rattle.pv_schema.proofs.AllowedKeys.{IsRight, IsAllowedField, fields_right, config_right, right, both_empty, each_append, is_there, shown, shown_there, schema_right, schemas_right, value_right, is_literals, is_members}
+use Rattle.pv_schema.proofs.AllowedKeys.{IsRight, IsAllowedField, fields_right, choices_right, tagged_right, definitions_right, config_right, right, both_empty, each_append, is_there, shown, shown_there, schema_right, schemas_right, value_right, is_text, is_literals, is_members, is_alias}
 
 -- the nodes of some schemas are allowed
 abbrev AreAllAllowed : List Node → Type 0
@@ -124,13 +131,17 @@ inner_is : (o : Option Tree) → is_some o ≡ true → IfSome o (IsRight (Some 
 inner_is None there h = absurd (false≢true there)
 inner_is (Some t) there h = h.1 kind.Schema h.0
 
-abbrev with_body : Option Bool → Body → Node
-with_body strict b = roll-Node (record { own_ref = None; strict = strict; body = b })
+abbrev with_body : Option (List ℕ) → Option Bool → Body → Node
+with_body own strict b = roll-Node (record { own_ref = own; strict = strict; body = b })
 
-node_is : (strict : Option Bool) (b : Body) → IsWhole (out-Body b) → AllByRecursion IsAllowed (preorder (with_body strict b))
-node_is strict b h =
-    subst (AllByRecursion IsAllowed) (sym (preorder_opens (with_body strict b)))
-    (subst IsWhole (sym (ap (λ n. out-Body n.body) (out-roll-Node (record { own_ref = None; strict = strict; body = b })))) h)
+node_is : (own : Option (List ℕ)) (strict : Option Bool) (b : Body) → IsWhole (out-Body b) → AllByRecursion IsAllowed (preorder (with_body own strict b))
+node_is own strict b h =
+    subst (AllByRecursion IsAllowed) (sym (preorder_opens (with_body own strict b)))
+    (subst IsWhole (sym (ap (λ n. out-Body n.body) (out-roll-Node (record { own_ref = own; strict = strict; body = b })))) h)
+
+name_is : (own : Option (List ℕ)) (strict : Option Bool) (b : Body) → is_some own ≡ true → IsNamed (with_body own strict b)
+name_is own strict b h =
+    subst IsTrue (sym (ap (λ n. is_some n.own_ref) (out-roll-Node (record { own_ref = own; strict = strict; body = b })))) h
 
 module _ (ms : List (List ℕ × Tree)) where
   abbrev at : Key → Option Tree
@@ -170,7 +181,7 @@ module _ (ms : List (List ℕ × Tree)) where
           variadic = place_is (under key.VariadicItemIndex) (under key.ItemsSchema) there (tested at tuple_test e);
           bounds = bounds;
         },
-        subst AreAllAllowed (sym (positions_written 0 positions)) (schemas_right (under key.ItemsSchema) h),
+        subst AreAllAllowed (sym (listed_written (position_path (codes "items_schema")) Enters 0 positions)) (schemas_right (under key.ItemsSchema) h),
       )
 
   dict : IfSome (under key.KeysSchema) (IsRight (Some kind.Schema)) → IfSome (under key.ValuesSchema) (IsRight (Some kind.Schema))
@@ -190,16 +201,72 @@ module _ (ms : List (List ℕ × Tree)) where
   nullable None there h = absurd (false≢true there)
   nullable (Some t) there h = rolled _ (Body-F.Nullable (made t kind.Schema)) (rolls-Nullable (made t kind.Schema)) (tt, schema_right (Some t) h)
 
-  -- a node that is entered for its inner schema
-  inner_right : is_some (under key.Schema) ≡ true → IfSome (under key.Schema) (IsRight (Some kind.Schema))
-      → AllByRecursion IsAllowed (preorder (or_any (node_at key.Schema)))
-  inner_right there h = inner_is (under key.Schema) there h
+  -- the schema under a key that has to be there
+  needed : (k : Key) → is_some (under k) ≡ true → IfSome (under k) (IsRight (Some kind.Schema)) → AllByRecursion IsAllowed (preorder (or_any (node_at k)))
+  needed k there h = inner_is (under k) there h
+
+  -- the nodes of one such schema
+  only : (k : Key) → is_some (under k) ≡ true → IfSome (under k) (IsRight (Some kind.Schema)) → AreAllAllowed (or_any (node_at k) ∷ [])
+  only k there h = each_append IsAllowed (preorder (or_any (node_at k))) [] (needed k there h) tt
 
   default : (t : Tree) (validate : Option Bool) (e : OnError) → is_some (under key.Schema) ≡ true → IfSome (under key.Schema) (IsRight (Some kind.Schema))
       → IsWhole (out-Body (body.Default t validate e (or_any (node_at key.Schema))))
   default t validate e there h =
       rolled _ (Body-F.Default t validate e (or_any (node_at key.Schema))) (rolls-Default t validate e (or_any (node_at key.Schema)))
-      (tt, each_append IsAllowed _ [] (inner_right there h) tt)
+      (tt, only key.Schema there h)
+
+  lax_or_strict : is_some (under key.LaxSchema) ≡ true → IfSome (under key.LaxSchema) (IsRight (Some kind.Schema))
+      → is_some (under key.StrictSchema) ≡ true → IfSome (under key.StrictSchema) (IsRight (Some kind.Schema))
+      → IsWhole (out-Body (body.LaxOrStrict (or_any (node_at key.LaxSchema)) (or_any (node_at key.StrictSchema))))
+  lax_or_strict a h b k =
+      let lax = or_any (node_at key.LaxSchema) in
+      let strict = or_any (node_at key.StrictSchema) in
+      rolled _ (Body-F.LaxOrStrict lax strict) (rolls-LaxOrStrict lax strict)
+      (tt, each_append IsAllowed (preorder lax) (flat_map preorder (strict ∷ [])) (needed key.LaxSchema a h) (only key.StrictSchema b k))
+
+  json_or_python : is_some (under key.JsonSchema) ≡ true → IfSome (under key.JsonSchema) (IsRight (Some kind.Schema))
+      → IsWhole (out-Body (body.JsonOrPython (or_any (node_at key.JsonSchema))))
+  json_or_python there h =
+      rolled _ (Body-F.JsonOrPython (or_any (node_at key.JsonSchema))) (rolls-JsonOrPython (or_any (node_at key.JsonSchema)))
+      (tt, only key.JsonSchema there h)
+
+  custom_error : (error_type message : List ℕ) → is_some (under key.Schema) ≡ true → IfSome (under key.Schema) (IsRight (Some kind.Schema))
+      → IsWhole (out-Body (body.CustomError error_type message (or_any (node_at key.Schema))))
+  custom_error error_type message there h =
+      rolled _ (Body-F.CustomError error_type message (or_any (node_at key.Schema))) (rolls-CustomError error_type message (or_any (node_at key.Schema)))
+      (tt, only key.Schema there h)
+
+  before : is_some (under key.Schema) ≡ true → IfSome (under key.Schema) (IsRight (Some kind.Schema))
+      → IsWhole (out-Body (body.Before (func_rule at) (or_any (node_at key.Schema))))
+  before there h =
+      rolled _ (Body-F.Before (func_rule at) (or_any (node_at key.Schema))) (rolls-Before (func_rule at) (or_any (node_at key.Schema)))
+      (tt, only key.Schema there h)
+
+  after : is_some (under key.Schema) ≡ true → IfSome (under key.Schema) (IsRight (Some kind.Schema))
+      → IsWhole (out-Body (body.After (func_rule at) (or_any (node_at key.Schema))))
+  after there h =
+      rolled _ (Body-F.After (func_rule at) (or_any (node_at key.Schema))) (rolls-After (func_rule at) (or_any (node_at key.Schema)))
+      (tt, only key.Schema there h)
+
+  wrap : is_some (under key.Schema) ≡ true → IfSome (under key.Schema) (IsRight (Some kind.Schema))
+      → IsWhole (out-Body (body.Wrap (func_rule at) (or_any (node_at key.Schema))))
+  wrap there h =
+      rolled _ (Body-F.Wrap (func_rule at) (or_any (node_at key.Schema))) (rolls-Wrap (func_rule at) (or_any (node_at key.Schema)))
+      (tt, only key.Schema there h)
+
+  plain : IsWhole (out-Body (body.Plain (func_rule at)))
+  plain = rolled _ (Body-F.Plain (func_rule at)) (rolls-Plain (func_rule at)) (tt, tt)
+
+  union : is_some (under key.Choices) ≡ true → IfSome (under key.Choices) (IsRight (Some kind.Choices))
+      → IsWhole (out-Body (union_body at (part_at itself made ms) (or_empty (part_at itself made ms kind.Choices key.Choices))))
+  union there h =
+      let cs = or_empty (part_at itself made ms kind.Choices key.Choices) in
+      let rule = union_rule (read union_mode_of (at key.Mode)) cs in
+      let right = choices_right (under key.Choices) there h in
+      rolled _ (Body-F.Union rule (choice_schemas cs)) (rolls-Union rule (choice_schemas cs)) (
+        is_union (read union_mode_of (at key.Mode)) cs right,
+        subst AreAllAllowed (sym (listed_written (choice_path rule.labels) Stays 0 (choice_schemas cs))) (schemas_are cs right.each),
+      )
 
   abbrev configured : Option Settings
   configured = option_map (titled (read text_of (at key.Cls))) (part_at itself made ms kind.Config key.Config)
@@ -209,7 +276,7 @@ module _ (ms : List (List ℕ × Tree)) where
       → IsWhole (out-Body (body.Model cls root configured (or_any (node_at key.Schema))))
   model cls root there h c =
       rolled _ (Body-F.Model cls root configured (or_any (node_at key.Schema))) (rolls-Model cls root configured (or_any (node_at key.Schema)))
-      (config_right (read text_of (at key.Cls)) (under key.Config) c, each_append IsAllowed _ [] (inner_right there h) tt)
+      (config_right (read text_of (at key.Cls)) (under key.Config) c, only key.Schema there h)
 
   with_fields : (k : FieldsKind) (total : Option Bool) (config : Option Settings) (cls : Option (List ℕ))
       → IfSome (under key.Fields) (IsRight (Some (kind.Fields k))) → IfSome (under key.ExtrasSchema) (IsRight (Some kind.Schema))
@@ -229,6 +296,42 @@ module _ (ms : List (List ℕ × Tree)) where
   value_at : {Y : Type 0} (k : Key) (v : ValueKind) (f : Tree → Option Y) → ((t : Tree) → is_value v t ≡ is_some (f t))
       → is_some (under k) ≡ true → IfSome (under k) (IsRight (Some (kind.Value v))) → is_some (read f (at k)) ≡ true
   value_at k v f same there h = value_right v f same (at k) (shown_there (under k) there) (shown (IsRight (Some (kind.Value v))) (under k) h)
+
+  tagged_union : is_some (under key.Choices) ≡ true → IfSome (under key.Choices) (IsRight (Some kind.Tagged))
+      → is_some (under key.Discriminator) ≡ true → IfSome (under key.Discriminator) (IsRight (Some (kind.Value value.Alias)))
+      → IsWhole (out-Body (tagged_body at (part_at itself made ms) (or_empty (part_at itself made ms kind.Tagged key.Choices))))
+  tagged_union there h is k =
+      let cs = or_empty (part_at itself made ms kind.Tagged key.Choices) in
+      let alias = read alias_of (at key.Discriminator) in
+      let rule = tag_rule alias cs in
+      let right = tagged_right (under key.Choices) there h in
+      rolled _ (Body-F.TaggedUnion rule (tagged_schemas cs)) (rolls-TaggedUnion rule (tagged_schemas cs)) (
+        is_tagged alias cs right (value_at key.Discriminator value.Alias alias_of is_alias is k) (aliases (at key.Discriminator)),
+        subst AreAllAllowed (sym (listed_written (tag_path rule.tags) Stays 0 (tagged_schemas cs))) (tagged_are cs right.each),
+      )
+
+  definitions : is_some (under key.Schema) ≡ true → IfSome (under key.Schema) (IsRight (Some kind.Schema))
+      → IfSome (under key.Definitions) (IsRight (Some kind.Definitions))
+      → IsWhole (out-Body (body.Definitions (or_any (node_at key.Schema)) (or_empty (part_at itself made ms kind.Definitions key.Definitions))))
+  definitions there h k =
+      let inner = or_any (node_at key.Schema) in
+      let ns = or_empty (part_at itself made ms kind.Definitions key.Definitions) in
+      let right = definitions_right (under key.Definitions) k in
+      rolled _ (Body-F.Definitions inner ns) (rolls-Definitions inner ns) (
+        right.named,
+        subst (λ all. AreAllAllowed (inner ∷ all)) (sym (listed_written (position_path (codes "definitions")) Absent 0 ns))
+            (each_append IsAllowed (preorder inner) (flat_map preorder ns) (needed key.Schema there h) right.each),
+      )
+
+  definition_ref : (name : List ℕ) → IsWhole (out-Body (body.DefinitionRef name))
+  definition_ref name = rolled _ (Body-F.DefinitionRef name) (rolls-DefinitionRef name) (tt, tt)
+
+  -- a node of a type, where a name is written
+  named : (n : NodeType) → is_some (under key.Ref) ≡ true → IfSome (under key.Ref) (IsRight (Some (kind.Value value.Text)))
+      → IsNamed (node_made at (part_at itself made ms) (makes.Node n))
+  named n there h =
+      name_is (read text_of (at key.Ref)) (read flag_of (at key.Strict)) (body_in itself made ms n)
+      (value_at key.Ref value.Text text_of is_text there h)
 
   enum : is_some (under key.Members) ≡ true → IfSome (under key.Members) (IsRight (Some (kind.Value value.Members)))
       → misfits at (enum_test ∷ []) ≡ [] → IsEnum (enum_rule at)
@@ -255,10 +358,7 @@ IsMadeRight row = (ms : List (List ℕ × Tree)) → IsClean row.object ms
 
 made_by : (ms : List (List ℕ × Tree)) (n : NodeType) → IsWhole (out-Body (body_in itself made ms n))
     → AllByRecursion IsAllowed (preorder (node_made (tree_at itself ms) (part_at itself made ms) (makes.Node n)))
-made_by ms n h = node_is _ (body_in itself made ms n) h
-
-not_built : (ms : List (List ℕ × Tree)) → AllByRecursion IsAllowed (preorder (node_made (tree_at itself ms) (part_at itself made ms) makes.NotBuilt))
-not_built ms = node_is None (body.Scalar rule.Any) (scalar rule.Any tt)
+made_by ms n h = node_is _ _ (body_in itself made ms n) h
 
 -- a typed dict is no model
 no_model : (settings : Option Settings) (cls : Option (List ℕ)) → fields.TypedDict ≡ fields.Model → (settings ≡ None) × (cls ≡ None)
@@ -308,27 +408,27 @@ rows_are = (
                                       (
                                         λ ms c. made_by ms node.Model (model ms _ _ (is_there _ c.none_absent.1.1.1.1.1.1.0) (c.under key.Schema) (c.under key.Config)),
                                         (
-                                          λ ms c. not_built ms,
+                                          λ ms c. made_by ms node.Union (union ms (is_there _ c.none_absent.1.1.1.1.1.0) (c.under key.Choices)),
                                           (
-                                            λ ms c. not_built ms,
+                                            λ ms c. made_by ms node.TaggedUnion (tagged_union ms (is_there _ c.none_absent.1.1.1.1.1.0) (c.under key.Choices) (is_there _ c.none_absent.1.1.1.1.1.1.0) (c.under key.Discriminator)),
                                             (
-                                              λ ms c. not_built ms,
+                                              λ ms c. made_by ms node.LaxOrStrict (lax_or_strict ms (is_there _ c.none_absent.1.1.1.1.1.0) (c.under key.LaxSchema) (is_there _ c.none_absent.1.1.1.1.1.1.0) (c.under key.StrictSchema)),
                                               (
-                                                λ ms c. not_built ms,
+                                                λ ms c. made_by ms node.JsonOrPython (json_or_python ms (is_there _ c.none_absent.1.1.1.1.1.0) (c.under key.JsonSchema)),
                                                 (
-                                                  λ ms c. not_built ms,
+                                                  λ ms c. made_by ms node.CustomError (custom_error ms _ _ (is_there _ c.none_absent.1.1.1.1.1.0) (c.under key.Schema)),
                                                   (
-                                                    λ ms c. not_built ms,
+                                                    λ ms c. made_by ms node.Before (before ms (is_there _ c.none_absent.1.1.1.1.1.1.0) (c.under key.Schema)),
                                                     (
-                                                      λ ms c. not_built ms,
+                                                      λ ms c. made_by ms node.After (after ms (is_there _ c.none_absent.1.1.1.1.1.1.0) (c.under key.Schema)),
                                                       (
-                                                        λ ms c. not_built ms,
+                                                        λ ms c. made_by ms node.Wrap (wrap ms (is_there _ c.none_absent.1.1.1.1.1.1.0) (c.under key.Schema)),
                                                         (
-                                                          λ ms c. not_built ms,
+                                                          λ ms c. made_by ms node.Plain (plain ms),
                                                           (
-                                                            λ ms c. not_built ms,
+                                                            λ ms c. made_by ms node.Definitions (definitions ms (is_there _ c.none_absent.1.1.1.1.1.0) (c.under key.Schema) (c.under key.Definitions)),
                                                             (
-                                                              λ ms c. not_built ms,
+                                                              λ ms c. made_by ms node.DefinitionRef (definition_ref ms (or_empty (read text_of (at ms key.SchemaRef)))),
                                                               tt,
                                                             ),
                                                           ),
@@ -362,13 +462,41 @@ rows_are = (
   ),
 )
 
+-- the objects of a type of nodes take a text as their name
+abbrev pub TakesName : Makes → ObjectRow → Type 0
+TakesName makes.NotBuilt o = Unit {0}
+TakesName (makes.Node n) o = kind_under o (text key.Ref) ≡ Some (kind.Value value.Text)
+TakesName makes.Field o = ⊥
+
+-- what is made of an object in which nothing is wrong has a name where one is written
+abbrev pub IsMadeNamed : TypeRow → Type 0
+IsMadeNamed row = (ms : List (List ℕ × Tree)) → IsClean row.object ms → is_some (under ms key.Ref) ≡ true
+    → IsNamed (node_made (tree_at itself ms) (part_at itself made ms) row.makes)
+
+built_named : (m : Makes) (row : TypeRow) → m ≡ row.makes → TakesName m row.object → IfOk (where_built m row) IsMadeNamed
+built_named makes.NotBuilt row e h = tt
+built_named (makes.Node n) row e h =
+    λ ms c there. subst (λ m. IsNamed (node_made (tree_at itself ms) (part_at itself made ms) m)) e
+    (named ms n there (subst (λ k. IfSome (under ms key.Ref) (IsRight k)) h (c.under key.Ref)))
+built_named makes.Field row e h = absurd h
+
+-- a row whose type is built
+pub row_named : (row : TypeRow) → TakesName row.makes row.object → IfOk (where_built row.makes row) IsMadeNamed
+row_named row h = built_named row.makes row refl h
+
+-- each row of the table
+pub rows_take_names : AllByRecursion (λ row. TakesName row.makes row.object) node_types
+unfolding kind_under
+rows_take_names =
+    (refl, (refl, (refl, (refl, (refl, (refl, (refl, (refl, (refl, (refl, (refl, (refl, (refl, (refl, (refl, (refl, (refl, (refl, (refl, (refl, (refl, (refl, (refl, (refl, (refl, (refl, (refl, (refl, (refl, (refl, (refl, tt)))))))))))))))))))))))))))))))
+
 -- a field in which nothing is wrong, by the row of its type
 abbrev pub IsFieldRight : TypeRow → Type 0
 IsFieldRight row = (ms : List (List ℕ × Tree)) → IsClean row.object ms → IsAllowedField (field_in itself made ms)
 
 field_is : (ms : List (List ℕ × Tree)) → is_some (under ms key.Schema) ≡ true → IfSome (under ms key.Schema) (IsRight (Some kind.Schema))
     → IsAllowedField (field_in itself made ms)
-field_is ms there h = record { alias = aliases (at ms key.ValidationAlias); schema = inner_right ms there h }
+field_is ms there h = record { alias = aliases (at ms key.ValidationAlias); schema = needed ms key.Schema there h }
 
 pub field_rows_are : (k : FieldsKind) → AllByRecursion IsFieldRight (field_types k)
 unfolding kind_under

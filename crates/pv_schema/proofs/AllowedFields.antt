@@ -1,5 +1,5 @@
 -- Fields in which nothing is wrong: their names, their rules and their schemas.
-use Rattle.std.proofs.Common.{◌≡◌, ℕ, suc, Bool, true, List, [], ◌∷◌, ◌++◌, map, length, Option, None, Some, flat_map, refl, ap, sym, ◌∙◌, subst, drop, bytes_eq}
+use Rattle.std.proofs.Common.{◌≡◌, ℕ, suc, Bool, true, List, [], ◌∷◌, ◌++◌, map, length, Option, None, flat_map, refl, ap, sym, ◌∙◌, subst, bytes_eq}
 use Rattle.std.proofs.lemmas.Grind.{flat_map-append}
 use Rattle.std.specs.List.{AllByRecursion, IsDistinct}
 use Rattle.std.specs.Option.{IfSome}
@@ -9,10 +9,13 @@ use Rattle.pv_rules.specs.declared.FieldsKind.{FieldsKind}
 use Rattle.pv_rules.specs.declared.FieldsKind.TheVariants as fields
 use Rattle.pv_rules.specs.declared.Settings.{Settings}
 use Rattle.pv_node.specs.declared.Node.{Node}
-use Rattle.pv_node.specs.Places.{Slot, field_slots, extras_slots}
+use Rattle.pv_node.specs.Places.{field_path, field_slots, extras_slots}
+use Rattle.pv_node.specs.declared.Edge.TheVariants.{Enters}
+use Rattle.pv_node.proofs.Written.{listed_then, extras_written}
 use Rattle.pv_node.specs.Preorder.{preorder, optional, written}
 use Rattle.pv_schema.specs.Fields.{Field, is_required, field_rules, fields_rule, field_schemas}
-use Rattle.pv_schema.specs.Allowed.{IsAllowed, IsFieldOf, AreFields, AreSettings}
+use Rattle.pv_rules.specs.Allowed.{IsFieldOf, AreFields, AreSettings}
+use Rattle.pv_node.specs.Allowed.{IsAllowed}
 use Rattle.pv_schema.proofs.AllowedKeys.{IsAllowedField, AreAllowedFields, each_append}
 
 module _ (k : FieldsKind) (total : Option Bool) where
@@ -42,15 +45,6 @@ module _ (k : FieldsKind) (total : Option Bool) where
     of_model = of_model;
   }
 
--- the nodes in the slots of fields
-fields_written : {Y : Type 0} (rs : List FieldRule) (ys : List Y) (ss : List (Slot Y)) → written (field_slots rs ys ++ ss) ≡ ys ++ written ss
-fields_written rs [] ss = refl
-fields_written rs (y ∷ ys) ss = ap (λ zs. y ∷ zs) (fields_written (drop 1 rs) ys ss)
-
-extras_written : {Y : Type 0} (o : Option Y) → written (extras_slots o) ≡ optional o
-extras_written None = refl
-extras_written (Some y) = refl
-
 schemas_are : (fs : List (List ℕ × Field)) → AllByRecursion (λ f. IsAllowedField f.1) fs → AllByRecursion IsAllowed (flat_map preorder (field_schemas fs))
 schemas_are [] h = tt
 schemas_are (f ∷ fs) h = each_append IsAllowed (preorder (f.1).schema) (flat_map preorder (field_schemas fs)) (h.0).schema (schemas_are fs h.1)
@@ -60,6 +54,6 @@ pub nodes_are : (rs : List FieldRule) (fs : List (List ℕ × Field)) (extras : 
     → AllByRecursion IsAllowed (flat_map preorder (written (field_slots rs (field_schemas fs) ++ extras_slots extras)))
 nodes_are rs fs extras h k =
     subst (λ ns. AllByRecursion IsAllowed (flat_map preorder ns))
-    (sym (fields_written rs (field_schemas fs) (extras_slots extras) ∙ ap (λ ns. field_schemas fs ++ ns) (extras_written extras)))
+    (sym (listed_then (field_path rs) Enters 0 (field_schemas fs) (extras_slots extras) ∙ ap (λ ns. field_schemas fs ++ ns) (extras_written extras)))
     (subst (AllByRecursion IsAllowed) (sym (flat_map-append preorder (field_schemas fs) (optional extras)))
     (each_append IsAllowed _ _ (schemas_are fs h.each) k))

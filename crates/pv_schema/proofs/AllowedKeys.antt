@@ -1,6 +1,8 @@
 -- Where nothing is wrong with the members of an object, nothing is wrong with what is found under a key, and what has to be there is there.
 use Rattle.std.proofs.Common.{◌≡◌, ℕ, Bool, true, false, if◌then◌else◌, List, [], ◌∷◌, ◌++◌, Option, None, Some, is_some, not, option_map, flat_map, refl, sym, ◌∙◌, subst}
 use Rattle.std.proofs.lemmas.Slice.Eq.{bytes_eq-Decides}
+use Rattle.std.proofs.lemmas.Bool.{false≢true}
+use Rattle.std.specs.Prelude.{◌<◌, length}
 use Rattle.std.specs.Str.{bytes_eq}
 use Rattle.std.specs.List.{AllByRecursion}
 use Rattle.std.specs.Option.{IfSome}
@@ -8,27 +10,29 @@ use Rattle.pv_tree.specs.declared.Step.{Step}
 use Rattle.pv_tree.specs.declared.Step.TheVariants.{Name}
 use Rattle.pv_tree.specs.declared.Tree.{Tree}
 use Rattle.pv_node.specs.Preorder.{preorder, optional}
-use Rattle.pv_schema_values.specs.Values.{is_value, literals_of, members_of}
+use Rattle.pv_schema_values.specs.Values.{is_value, text_of, literals_of, members_of, alias_of}
 use Rattle.pv_schema_values.specs.declared.ValueKind.{ValueKind}
 use Rattle.pv_schema_values.specs.declared.ValueKind.TheVariants as value
 use Rattle.std.specs.List.{IsDistinct}
 use Rattle.pv_tree.specs.Names.{HasDistinctNames}
 use Rattle.pv_rules.specs.declared.FieldsKind.{FieldsKind}
-use Rattle.pv_schema.specs.Find.{find}
-use Rattle.pv_schema.specs.Keys.{itself}
-use Rattle.pv_schema.specs.Table.{ObjectRow, kind_under}
-use Rattle.pv_schema.specs.Checking.{faults, faults_under, member_faults, all_under, is_absent, missing}
+use Rattle.pv_schema_check.specs.Find.{find, itself}
+use Rattle.pv_schema_table.specs.Table.{ObjectRow, kind_under}
+use Rattle.pv_schema_check.specs.Checking.{faults, faults_under, member_faults, all_under, is_absent, missing}
+use Rattle.pv_node.specs.declared.Node.{Node}
+use Rattle.pv_schema.specs.Choices.{Choice}
 use Rattle.pv_schema.specs.Fields.{Field}
 use Rattle.pv_schema.specs.Making.{MadeAs, made}
 use Rattle.pv_schema.specs.Written.{or_empty, read}
 use Rattle.pv_schema.specs.Configs.{titled}
-use Rattle.pv_schema.specs.Allowed.{IsAllowed, IsAlias, AreSettings}
-use Rattle.pv_schema.specs.declared.fault.Refusal.{Refusal}
-use Rattle.pv_schema.specs.declared.key.Key.{Key}
-use Rattle.pv_schema.specs.declared.kind.Kind.{Kind}
-use Rattle.pv_schema.specs.declared.kind.Kind.TheVariants as kind
-use Rattle.pv_schema.specs.declared.row.KeyRow.{KeyRow}
-use Rattle.pv_schema.proofs.CheckOpens.{value_opens}
+use Rattle.pv_rules.specs.Allowed.{IsAlias, AreSettings}
+use Rattle.pv_node.specs.Allowed.{IsAllowed, IsNamed}
+use Rattle.pv_schema_check.specs.declared.Refusal.{Refusal}
+use Rattle.pv_schema_table.specs.declared.Key.{Key}
+use Rattle.pv_schema_table.specs.declared.Kind.{Kind}
+use Rattle.pv_schema_table.specs.declared.Kind.TheVariants as kind
+use Rattle.pv_schema_table.specs.declared.KeyRow.{KeyRow}
+use Rattle.pv_schema_check.proofs.CheckOpens.{value_opens}
 
 pub both_empty : {X : Type 0} (xs ys : List X) → xs ++ ys ≡ [] → (xs ≡ []) × (ys ≡ [])
 both_empty [] ys e = (refl, e)
@@ -52,11 +56,32 @@ pub record AreAllowedFields (fs : List (List ℕ × Field)) : Type 0 where
   pub names : HasDistinctNames fs
   pub each : AllByRecursion (λ f. IsAllowedField f.1) fs
 
+-- choices: there is one or more, and the nodes of their schemas
+pub record AreAllowedChoices (cs : List Choice) : Type 0 where
+  pub some : 0 < length cs
+  pub each : AllByRecursion (λ c. AllByRecursion IsAllowed (preorder c.schema)) cs
+
+-- the same of choices under tags: no tag comes twice
+pub record AreAllowedTagged (cs : List (List ℕ × Node)) : Type 0 where
+  pub some : 0 < length cs
+  pub names : HasDistinctNames cs
+  pub each : AllByRecursion (λ c. AllByRecursion IsAllowed (preorder c.1)) cs
+
+-- definitions: each has a name, and the nodes of all
+pub record AreAllowedDefinitions (ns : List Node) : Type 0 where
+  pub named : AllByRecursion IsNamed ns
+  pub each : AllByRecursion IsAllowed (flat_map preorder ns)
+
 -- what is made of a tree is allowed
 abbrev pub AreAllowedAs : (k : Kind) → MadeAs k → Type 0
 AreAllowedAs (kind.Value v) m = Unit {0}
 AreAllowedAs kind.Schema n = AllByRecursion IsAllowed (preorder n)
 AreAllowedAs kind.Schemas ns = AllByRecursion IsAllowed (flat_map preorder ns)
+AreAllowedAs kind.Choices cs = AreAllowedChoices cs
+AreAllowedAs kind.Choice c = AllByRecursion IsAllowed (preorder c.schema)
+AreAllowedAs kind.Tagged cs = AreAllowedTagged cs
+AreAllowedAs kind.Definitions ns = AreAllowedDefinitions ns
+AreAllowedAs kind.Definition n = IsNamed n × AllByRecursion IsAllowed (preorder n)
 AreAllowedAs (kind.Fields k) fs = AreAllowedFields fs
 AreAllowedAs (kind.Field k) f = IsAllowedField f
 AreAllowedAs kind.Config s = AreSettings s
@@ -129,6 +154,18 @@ pub fields_right : (k : FieldsKind) (o : Option Tree) → IfSome o (IsRight (Som
 fields_right k None h = no_fields
 fields_right k (Some t) h = h.1 (kind.Fields k) h.0
 
+pub choices_right : (o : Option Tree) → is_some o ≡ true → IfSome o (IsRight (Some kind.Choices)) → AreAllowedChoices (or_empty (option_map (λ t. made t kind.Choices) o))
+choices_right None is h = absurd (false≢true is)
+choices_right (Some t) is h = h.1 kind.Choices h.0
+
+pub tagged_right : (o : Option Tree) → is_some o ≡ true → IfSome o (IsRight (Some kind.Tagged)) → AreAllowedTagged (or_empty (option_map (λ t. made t kind.Tagged) o))
+tagged_right None is h = absurd (false≢true is)
+tagged_right (Some t) is h = h.1 kind.Tagged h.0
+
+pub definitions_right : (o : Option Tree) → IfSome o (IsRight (Some kind.Definitions)) → AreAllowedDefinitions (or_empty (option_map (λ t. made t kind.Definitions) o))
+definitions_right None h = record { named = tt; each = tt }
+definitions_right (Some t) h = h.1 kind.Definitions h.0
+
 pub config_right : (cls : Option (List ℕ)) (o : Option Tree) → IfSome o (IsRight (Some kind.Config))
     → IfSome (option_map (titled cls) (option_map (λ t. made t kind.Config) o)) AreSettings
 config_right cls None h = tt
@@ -140,9 +177,17 @@ pub value_right : {Y : Type 0} (v : ValueKind) (f : Tree → Option Y) → ((t :
 value_right v f same None is h = is
 value_right v f same (Some t) is h = sym (same t) ∙ right (is_value v t) _ (sym (value_opens t v) ∙ h.0)
 
+pub is_text : (t : Tree) → is_value value.Text t ≡ is_some (text_of t)
+unfolding is_value
+is_text t = refl
+
 pub is_literals : (t : Tree) → is_value value.Literals t ≡ is_some (literals_of t)
 unfolding is_value
 is_literals t = refl
+
+pub is_alias : (t : Tree) → is_value value.Alias t ≡ is_some (alias_of t)
+unfolding is_value
+is_alias t = refl
 
 pub is_members : (t : Tree) → is_value value.Members t ≡ is_some (members_of t)
 unfolding is_value

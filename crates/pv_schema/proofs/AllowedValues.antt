@@ -10,13 +10,14 @@ use Rattle.pv_rules.specs.declared.Literal.{Literal}
 use Rattle.pv_rules.specs.declared.Literal.TheVariants as literal
 use Rattle.pv_rules.specs.declared.EnumMember.{EnumMember}
 use Rattle.pv_tree.specs.Parts.{items_at}
-use Rattle.pv_schema_values.specs.Values.{int_of, natural_within, count_of, positive, positive_of, version_of, put_first, all_of, some_of, some_in, text_of, texts_of, literal_of, literals_of, member_value_at, member_value_of, member_by, member_in, member_of, are_members, where_distinct, members_of}
+use Rattle.pv_schema_values.specs.Values.{int_of, natural_within, count_of, positive, positive_of, version_of, put_first, all_of, some_of, some_in, text_of, texts_of, literal_of, literals_of, member_value_at, member_value_of, member_by, member_in, member_of, where_distinct, members_of}
 use Rattle.pv_schema_values.specs.Values.{step_of, path_by, path_in, path_of, alias_by, alias_of}
 use Rattle.std.specs.Option.{option_or}
 use Rattle.pv_tree.specs.declared.Step.{Step}
 use Rattle.pv_tree.specs.declared.Step.TheVariants.{Name, Index}
+use Rattle.pv_rules.specs.Members.{are_members}
 use Rattle.pv_schema.specs.Written.{read, or_empty}
-use Rattle.pv_schema.specs.Allowed.{IsCount, HasItems, IsPositive, IsVersion, IsIntOrText, IsStep, IsPath, IsAlias}
+use Rattle.pv_rules.specs.Allowed.{IsCount, HasItems, IsPositive, IsVersion, IsIntOrText, IsStep, IsPath, IsAlias}
 
 module _ {X : Type 0} (P : X → Type 0) where
   kept : (b : Bool) (x : X) → (b ≡ true → P x) → IfSome (if b then Some x else None) P

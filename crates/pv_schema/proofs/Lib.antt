@@ -1,11 +1,8 @@
-pub mod CheckOpens
-pub mod TableLemmas
-pub mod Rest
 pub mod MakeOpens
 pub mod AllowedValues
 pub mod AllowedKeys
 pub mod AllowedFields
+pub mod AllowedChoices
 pub mod AllowedBodies
 pub mod Allowing
-pub mod Naming
 pub mod Ineffective

@@ -7,8 +7,8 @@ use Rattle.pv_rules.specs.declared.Settings.{Settings}
 use Rattle.pv_schema_values.specs.Values.{text_of, flag_of, count_of, extra_behavior_of}
 use Rattle.pv_schema_values.specs.Values.{is_false}
 use Rattle.pv_schema.specs.Written.{read, flag_or}
-use Rattle.pv_schema.specs.declared.key.Key.{Key}
-use Rattle.pv_schema.specs.declared.key.Key.TheVariants as key
+use Rattle.pv_schema_table.specs.declared.Key.{Key}
+use Rattle.pv_schema_table.specs.declared.Key.TheVariants as key
 
 -- by the trees under the keys
 module _ (at : Key → Option Tree) where

@@ -6,11 +6,11 @@ use Rattle.pv_rules.specs.declared.FieldRule.{FieldRule}
 use Rattle.pv_rules.specs.declared.FieldsKind.{FieldsKind}
 use Rattle.pv_node.specs.declared.Node.{Node}
 use Rattle.pv_schema.specs.Fields.{field_rule}
-use Rattle.pv_schema.specs.Find.{find}
-use Rattle.pv_schema.specs.Keys.{text, itself, tree_at}
+use Rattle.pv_schema_check.specs.Find.{find, itself, tree_at}
+use Rattle.pv_schema_table.specs.Keys.{text}
 use Rattle.pv_schema.specs.Making.{made, node_made, field_in, part_at}
-use Rattle.pv_schema.specs.Table.{ObjectRow, TypeRow, keys}
-use Rattle.pv_schema.specs.declared.row.KeyRow.{KeyRow}
+use Rattle.pv_schema_table.specs.Table.{ObjectRow, TypeRow, keys}
+use Rattle.pv_schema_table.specs.declared.KeyRow.{KeyRow}
 
 -- the members of an object
 abbrev pub Named : Type 0

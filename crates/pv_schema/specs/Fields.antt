@@ -10,8 +10,8 @@ use Rattle.pv_rules.specs.declared.FieldsKind.TheVariants as fields
 use Rattle.pv_node.specs.declared.Node.{Node}
 use Rattle.pv_schema_values.specs.Values.{text_of, flag_of, alias_of}
 use Rattle.pv_schema.specs.Written.{read, flag_or}
-use Rattle.pv_schema.specs.declared.key.Key.{Key}
-use Rattle.pv_schema.specs.declared.key.Key.TheVariants as key
+use Rattle.pv_schema_table.specs.declared.Key.{Key}
+use Rattle.pv_schema_table.specs.declared.Key.TheVariants as key
 
 -- what is written of a field of a model or of a typed dict, apart from its schema
 pub record FieldKeys : Type 0 where

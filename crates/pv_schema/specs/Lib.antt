@@ -1,14 +1,8 @@
-pub mod Find
-pub mod Keys
-pub mod Table
-pub mod Rows
-pub mod Checking
 pub mod Written
 pub mod NodeRules
 pub mod Configs
 pub mod Fields
+pub mod Choices
 pub mod Making
-pub mod Answers
 pub mod Reading
-pub mod Allowed
 pub mod Effects

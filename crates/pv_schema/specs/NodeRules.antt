@@ -9,11 +9,12 @@ use Rattle.pv_rules.specs.declared.EnumRule.{EnumRule}
 use Rattle.pv_rules.specs.declared.GatherRule.{GatherRule}
 use Rattle.pv_rules.specs.declared.Collection.{Collection}
 use Rattle.pv_rules.specs.declared.Collection.TheVariants as collection
+use Rattle.pv_rules.specs.declared.FuncRule.{FuncRule}
 use Rattle.pv_schema_values.specs.Values.{text_of, flag_of, int_of, count_of, positive_of}
-use Rattle.pv_schema_values.specs.Values.{texts_of, members_of, sub_type_of}
+use Rattle.pv_schema_values.specs.Values.{texts_of, members_of, sub_type_of, function_of}
 use Rattle.pv_schema.specs.Written.{read, or_empty}
-use Rattle.pv_schema.specs.declared.key.Key.{Key}
-use Rattle.pv_schema.specs.declared.key.Key.TheVariants as key
+use Rattle.pv_schema_table.specs.declared.Key.{Key}
+use Rattle.pv_schema_table.specs.declared.Key.TheVariants as key
 
 module _ (at : Key → Option Tree) where
   -- of an int
@@ -76,3 +77,7 @@ module _ (at : Key → Option Tree) where
     min_length = read count_of (at key.MinLength);
     max_length = read count_of (at key.MaxLength);
   }
+
+  -- of a function
+  abbrev pub func_rule : FuncRule
+  func_rule = record { function = or_empty (read function_of (at key.Function)) }

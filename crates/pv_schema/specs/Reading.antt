@@ -5,16 +5,16 @@ use Rattle.pv_tree.specs.declared.Step.{Step}
 use Rattle.pv_tree.specs.declared.Tree.{Tree}
 use Rattle.pv_node.specs.declared.Node.{Node}
 use Rattle.pv_node.specs.Preorder.{node_count}
-use Rattle.pv_schema.specs.Checking.{faults}
-use Rattle.pv_schema.specs.declared.kind.Kind.TheVariants as kind
-use Rattle.pv_schema.specs.Answers.{first}
+use Rattle.pv_schema_check.specs.Checking.{faults}
+use Rattle.pv_schema_table.specs.declared.Kind.TheVariants as kind
+use Rattle.pv_schema_check.specs.Answers.{first}
 use Rattle.pv_schema.specs.Making.{node_of}
-use Rattle.pv_schema.specs.declared.fault.Code.{Code}
-use Rattle.pv_schema.specs.declared.fault.Code.TheVariants as code
-use Rattle.pv_schema.specs.declared.fault.ShapeCode.{ShapeCode}
-use Rattle.pv_schema.specs.declared.fault.Refusal.{Refusal}
-use Rattle.pv_schema.specs.declared.fault.SchemaFault.{SchemaFault}
-use Rattle.pv_schema.specs.declared.fault.SchemaFault.TheVariants as fault
+use Rattle.pv_schema_check.specs.declared.Code.{Code}
+use Rattle.pv_schema_check.specs.declared.Code.TheVariants as code
+use Rattle.pv_schema_check.specs.declared.ShapeCode.{ShapeCode}
+use Rattle.pv_schema_check.specs.declared.Refusal.{Refusal}
+use Rattle.pv_schema.specs.declared.schema_fault.SchemaFault.{SchemaFault}
+use Rattle.pv_schema.specs.declared.schema_fault.SchemaFault.TheVariants as fault
 
 -- why a tree is no schema: the first place whose shape is wrong, the first that is not built yet,
 -- or too many nodes

@@ -1,25 +1,30 @@
 //! What a node of each type asks for.
 
 ghost use Rattle.std.specs.Prelude.{◌≡◌, IfOk};
+ghost use Rattle.pv_node.specs.Absent.{or_any};
 ghost use Rattle.pv_rules.specs.declared.ScalarRule.TheVariants as rule;
 ghost use Rattle.pv_schema_values.specs.Values as value;
-ghost use Rattle.pv_schema.specs.Keys.{itself, tree_at};
+ghost use Rattle.pv_schema_check.specs.Find.{itself, tree_at};
 ghost use Rattle.pv_schema.specs.Making.{body_in, fields_body, made, part_at};
 ghost use Rattle.pv_schema.specs.NodeRules.{gather_rule as gather};
 ghost use Rattle.pv_schema.specs.Written.{or_empty, read};
-ghost use Rattle.pv_schema.specs.declared.kind.Kind.TheVariants as kinds;
+ghost use Rattle.pv_schema_table.specs.declared.Kind.TheVariants as kinds;
 
-use crate::children::{make_child, make_children, make_fields_under, make_inner};
+use crate::children::{
+    make_child, make_children, make_definitions_under, make_fields_under, make_required,
+};
+use crate::choice_schemas::{make_choices_under, make_tagged_under};
+use crate::choices::{tag_rule, union_rule};
 use crate::configs::config_at;
 use crate::fields::fields_rule;
-use crate::key::Key;
 use crate::node_rules::{
-    bytes_rule, class_name, enum_rule, gather_rule, int_rule, str_rule, tuple_rule, url_rule,
+    bytes_rule, enum_rule, func_rule, gather_rule, int_rule, required_text, str_rule, tuple_rule,
+    url_rule,
 };
-use crate::node_type::NodeType;
 use crate::written::{default_at, flag_at, flag_or, literals_at, on_error_at, text_at, version_at};
-use pv_node::Body;
+use pv_node::{Body, Node};
 use pv_rules::{Collection, FieldsKind, ScalarRule, Settings};
+use pv_schema_table::{Key, NodeType};
 use pv_text::{Memory, Text};
 use pv_tree::{Members, Tree};
 use sqlite_items::Boxed;
@@ -61,13 +66,22 @@ fn make_dict(alloc: Global, members: &Members) -> Result<Body, Memory>
     })
 }
 
+/// The schema under a key, where it has to stand.
+#[cycle(make)]
+fn make_boxed(alloc: Global, members: &Members, key: Key) -> Result<Boxed<Node>, Memory>
+    ensures { IfOk result (λ node. node
+        ≡ or_any (part_at itself made members.now.members kinds.Schema key)) }
+{
+    Ok(Boxed::new(alloc, make_required(alloc, members, key)?)?)
+}
+
 #[cycle(make)]
 fn make_nullable(alloc: Global, members: &Members) -> Result<Body, Memory>
     ensures { IfOk result (λ body. body
         ≡ body_in itself made members.now.members NodeType.Nullable) }
 {
     Ok(Body::Nullable {
-        schema: Boxed::new(alloc, make_inner(alloc, members)?)?,
+        schema: make_boxed(alloc, members, Key::Schema)?,
     })
 }
 
@@ -81,7 +95,7 @@ fn make_default(alloc: Global, members: &Members) -> Result<Body, Memory>
         default: default_at(alloc, keys)?,
         validate_default: flag_at(keys, Key::ValidateDefault),
         on_error: on_error_at(keys),
-        schema: Boxed::new(alloc, make_inner(alloc, members)?)?,
+        schema: make_boxed(alloc, members, Key::Schema)?,
     })
 }
 
@@ -129,10 +143,69 @@ fn make_model(alloc: Global, members: &Members) -> Result<Body, Memory>
 {
     let keys = members.as_slice();
     Ok(Body::Model {
-        cls: class_name(alloc, keys)?,
+        cls: required_text(alloc, keys, Key::Cls)?,
         root_model: flag_or(false, keys, Key::RootModel),
         config: config_at(alloc, keys)?,
-        schema: Boxed::new(alloc, make_inner(alloc, members)?)?,
+        schema: make_boxed(alloc, members, Key::Schema)?,
+    })
+}
+
+#[cycle(make)]
+fn make_union(alloc: Global, members: &Members) -> Result<Body, Memory>
+    ensures { IfOk result (λ body. body
+        ≡ body_in itself made members.now.members NodeType.Union) }
+{
+    Ok(Body::Union {
+        rule: union_rule(alloc, members.as_slice())?,
+        choices: make_choices_under(alloc, members)?,
+    })
+}
+
+#[cycle(make)]
+fn make_tagged_union(alloc: Global, members: &Members) -> Result<Body, Memory>
+    ensures { IfOk result (λ body. body
+        ≡ body_in itself made members.now.members NodeType.TaggedUnion) }
+{
+    Ok(Body::TaggedUnion {
+        rule: tag_rule(alloc, members.as_slice())?,
+        choices: make_tagged_under(alloc, members)?,
+    })
+}
+
+#[cycle(make)]
+fn make_lax_or_strict(alloc: Global, members: &Members) -> Result<Body, Memory>
+    ensures { IfOk result (λ body. body
+        ≡ body_in itself made members.now.members NodeType.LaxOrStrict) }
+{
+    let lax_schema = make_boxed(alloc, members, Key::LaxSchema)?;
+    let strict_schema = make_boxed(alloc, members, Key::StrictSchema)?;
+    Ok(Body::LaxOrStrict {
+        lax_schema,
+        strict_schema,
+    })
+}
+
+#[cycle(make)]
+fn make_custom_error(alloc: Global, members: &Members) -> Result<Body, Memory>
+    ensures { IfOk result (λ body. body
+        ≡ body_in itself made members.now.members NodeType.CustomError) }
+{
+    let keys = members.as_slice();
+    Ok(Body::CustomError {
+        error_type: required_text(alloc, keys, Key::CustomErrorType)?,
+        message: required_text(alloc, keys, Key::CustomErrorMessage)?,
+        schema: make_boxed(alloc, members, Key::Schema)?,
+    })
+}
+
+#[cycle(make)]
+fn make_definitions(alloc: Global, members: &Members) -> Result<Body, Memory>
+    ensures { IfOk result (λ body. body
+        ≡ body_in itself made members.now.members NodeType.Definitions) }
+{
+    Ok(Body::Definitions {
+        schema: make_boxed(alloc, members, Key::Schema)?,
+        definitions: make_definitions_under(alloc, members)?,
     })
 }
 
@@ -178,5 +251,31 @@ pub(crate) fn make_body(
         }
         NodeType::TypedDict => make_typed_dict(alloc, members),
         NodeType::Model => make_model(alloc, members),
+        NodeType::Union => make_union(alloc, members),
+        NodeType::TaggedUnion => make_tagged_union(alloc, members),
+        NodeType::LaxOrStrict => make_lax_or_strict(alloc, members),
+        NodeType::JsonOrPython => Ok(Body::JsonOrPython {
+            json_schema: make_boxed(alloc, members, Key::JsonSchema)?,
+        }),
+        NodeType::CustomError => make_custom_error(alloc, members),
+        NodeType::Before => Ok(Body::Before {
+            rule: func_rule(alloc, keys)?,
+            schema: make_boxed(alloc, members, Key::Schema)?,
+        }),
+        NodeType::After => Ok(Body::After {
+            rule: func_rule(alloc, keys)?,
+            schema: make_boxed(alloc, members, Key::Schema)?,
+        }),
+        NodeType::Wrap => Ok(Body::Wrap {
+            rule: func_rule(alloc, keys)?,
+            schema: make_boxed(alloc, members, Key::Schema)?,
+        }),
+        NodeType::Plain => Ok(Body::Plain {
+            rule: func_rule(alloc, keys)?,
+        }),
+        NodeType::Definitions => make_definitions(alloc, members),
+        NodeType::DefinitionRef => Ok(Body::DefinitionRef {
+            schema_ref: required_text(alloc, keys, Key::SchemaRef)?,
+        }),
     }
 }

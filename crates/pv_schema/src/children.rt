@@ -3,15 +3,15 @@
 ghost use Rattle.std.specs.Prelude.{◌≡◌, IfOk};
 ghost use Rattle.pv_node.specs.Absent.{or_any};
 ghost use Rattle.pv_schema.specs.Fields.{field_schemas};
-ghost use Rattle.pv_schema.specs.Keys.{itself};
+ghost use Rattle.pv_schema_check.specs.Find.{itself};
 ghost use Rattle.pv_schema.specs.Making.{fields_in, made, part_at};
 ghost use Rattle.pv_schema.specs.Written.{or_empty};
-ghost use Rattle.pv_schema.specs.declared.kind.Kind.TheVariants as kinds;
+ghost use Rattle.pv_schema_table.specs.declared.Kind.TheVariants as kinds;
 
-use crate::key::Key;
 use crate::making::{make_node, make_nodes};
 use pv_node::{Node, any_node};
 use pv_rules::FieldsKind;
+use pv_schema_table::Key;
 use pv_text::Memory;
 use pv_tree::{Members, Tree};
 use sqlite_items::{Boxed, Items};
@@ -53,14 +53,28 @@ pub(crate) fn make_children(
     Ok(Items::new(alloc))
 }
 
-/// The schema under the key `schema`, where it has to stand.
+/// The definitions under the key `definitions`. Each is made as any schema is.
 #[cycle(make)]
-pub(crate) fn make_inner(alloc: Global, members: &Members) -> Result<Node, Memory>
+#[tactic(auto, using(crate::proofs::MakeOpens::definitions_made))]
+pub(crate) fn make_definitions_under(
+    alloc: Global,
+    members: &Members,
+) -> Result<Items<Node>, Memory>
+    ensures { IfOk result (λ nodes. nodes
+        ≡ or_empty (part_at itself made members.now.members kinds.Definitions Key.Definitions)) }
+{
+    let nodes = make_children(alloc, members, Key::Definitions)?;
+    Ok(nodes)
+}
+
+/// The schema under a key, where it has to stand.
+#[cycle(make)]
+pub(crate) fn make_required(alloc: Global, members: &Members, key: Key) -> Result<Node, Memory>
     ensures { IfOk result (λ node. node
-        ≡ or_any (part_at itself made members.now.members kinds.Schema Key.Schema)) }
+        ≡ or_any (part_at itself made members.now.members kinds.Schema key)) }
 {
     for (name, value) in members.as_slice() {
-        if Key::Schema.text() == name.as_str() {
+        if key.text() == name.as_str() {
             return Ok(make_node(alloc, value)?);
         }
     }
@@ -74,7 +88,7 @@ fn make_field_schema(alloc: Global, kind: FieldsKind, tree: &Tree) -> Result<Nod
 {
     match tree {
         Tree::Object(members) => {
-            let schema = make_inner(alloc, members)?;
+            let schema = make_required(alloc, members, Key::Schema)?;
             Ok(schema)
         }
         Tree::Null | Tree::Bool(_) | Tree::Num(_) | Tree::Str(_) | Tree::Array(_) => {

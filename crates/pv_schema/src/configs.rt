@@ -3,16 +3,16 @@
 ghost use Rattle.std.specs.Prelude.{◌≡◌, IfOk};
 ghost use Rattle.std.specs.Option.{option_map, option_or};
 ghost use Rattle.pv_schema_values.specs.Values as value;
-ghost use Rattle.pv_schema.specs.Keys.{itself, tree_at};
+ghost use Rattle.pv_schema_check.specs.Find.{itself, tree_at};
 ghost use Rattle.pv_schema.specs.Configs as spec;
 ghost use Rattle.pv_schema.specs.Making.{made, part_at};
 ghost use Rattle.pv_schema.specs.Written.{read};
-ghost use Rattle.pv_schema.specs.declared.kind.Kind.TheVariants as kinds;
+ghost use Rattle.pv_schema_table.specs.declared.Kind.TheVariants as kinds;
 
-use crate::finding::find;
-use crate::key::Key;
 use crate::written::{count_at, extra_behavior_at, flag_at, flag_or, text_at};
 use pv_rules::{ExtraBehavior, Settings};
+use pv_schema_check::find;
+use pv_schema_table::Key;
 use pv_text::{Memory, Text};
 use pv_tree::Tree;
 use std::alloc::Global;

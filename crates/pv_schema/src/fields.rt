@@ -2,16 +2,16 @@
 
 ghost use Rattle.std.specs.Prelude.{◌≡◌, IfOk};
 ghost use Rattle.pv_schema_values.specs.Values as value;
-ghost use Rattle.pv_schema.specs.Keys.{itself, tree_at};
+ghost use Rattle.pv_schema_check.specs.Find.{itself, tree_at};
 ghost use Rattle.pv_schema.specs.Fields as spec;
 ghost use Rattle.pv_schema.specs.Making.{fields_in, made, part_at};
 ghost use Rattle.pv_schema.specs.Written.{or_empty, read};
-ghost use Rattle.pv_schema.specs.declared.kind.Kind.TheVariants as kinds;
+ghost use Rattle.pv_schema_table.specs.declared.Kind.TheVariants as kinds;
 
-use crate::finding::find;
-use crate::key::Key;
 use crate::written::{alias_at, extra_behavior_at, flag_at, flag_or, text_at};
 use pv_rules::{FieldRule, FieldsKind, FieldsRule};
+use pv_schema_check::find;
+use pv_schema_table::Key;
 use pv_text::{Memory, Text};
 use pv_tree::Tree;
 use sqlite_items::Items;

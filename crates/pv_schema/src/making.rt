@@ -1,19 +1,16 @@
 //! The schema that a tree is, where nothing is wrong with it.
 
 ghost use Rattle.std.specs.Prelude.{◌≡◌, IfOk, map};
-ghost use Rattle.pv_schema.specs.Keys.{itself, tree_at};
+ghost use Rattle.pv_schema_check.specs.Find.{itself, tree_at};
 ghost use Rattle.pv_schema.specs.Making as spec;
 ghost use Rattle.pv_schema.specs.Making.{made, part_at};
-ghost use Rattle.pv_schema.specs.declared.kind.Kind.TheVariants as kinds;
+ghost use Rattle.pv_schema_table.specs.declared.Kind.TheVariants as kinds;
 
 use crate::bodies::make_body;
-use crate::key::Key;
-use crate::node_type::NodeType;
-use crate::row::Makes;
-use crate::row_lookup::row_of;
-use crate::table::node_types;
-use crate::written::flag_at;
+use crate::written::{flag_at, text_at};
 use pv_node::{Node, any_node};
+use pv_schema_check::row_of;
+use pv_schema_table::{Key, Makes, NodeType, node_types};
 use pv_text::Memory;
 use pv_tree::{Members, Tree};
 use sqlite_items::Items;
@@ -25,9 +22,10 @@ fn make_node_of_type(alloc: Global, node_type: NodeType, members: &Members) -> R
     ensures { IfOk result (λ node. node ≡ spec.node_of_type (tree_at itself members.now.members)
         (part_at itself made members.now.members) node_type) }
 {
+    let keys = members.as_slice();
     Ok(Node {
-        own_ref: None,
-        strict: flag_at(members.as_slice(), Key::Strict),
+        own_ref: text_at(alloc, keys, Key::Ref)?,
+        strict: flag_at(keys, Key::Strict),
         body: make_body(alloc, node_type, members)?,
     })
 }
@@ -62,7 +60,7 @@ pub(crate) fn make_nodes(alloc: Global, tree: &Tree) -> Result<Items<Node>, Memo
 
 /// The schema that an object with these members is.
 #[cycle(make)]
-fn make_object(alloc: Global, members: &Members) -> Result<Node, Memory>
+pub(crate) fn make_object(alloc: Global, members: &Members) -> Result<Node, Memory>
     ensures { IfOk result (λ node. node ≡ spec.node_in itself made members.now.members) }
 {
     match row_of(node_types(), members.as_slice()) {

@@ -2,15 +2,16 @@
 
 ghost use Rattle.std.specs.Prelude.{◌≡◌, IfOk};
 ghost use Rattle.pv_schema_values.specs.Values as value;
-ghost use Rattle.pv_schema.specs.Keys.{itself, tree_at};
+ghost use Rattle.pv_schema_check.specs.Find.{itself, tree_at};
 ghost use Rattle.pv_schema.specs.NodeRules as spec;
 ghost use Rattle.pv_schema.specs.Written.{or_empty, read};
 
-use crate::key::Key;
 use crate::written::{
-    count_at, enum_members_at, flag_at, int_at, positive_at, sub_type_at, text_at, texts_at,
+    count_at, enum_members_at, flag_at, function_at, int_at, positive_at, sub_type_at, text_at,
+    texts_at,
 };
-use pv_rules::{BytesRule, Collection, EnumRule, GatherRule, IntRule, StrRule, UrlRule};
+use pv_rules::{BytesRule, Collection, EnumRule, FuncRule, GatherRule, IntRule, StrRule, UrlRule};
+use pv_schema_table::Key;
 use pv_text::{Memory, Text};
 use pv_tree::Tree;
 use std::alloc::Global;
@@ -56,12 +57,16 @@ pub(crate) fn url_rule(alloc: Global, members: &[(Text, Tree)]) -> Result<UrlRul
     })
 }
 
-/// The name of a class, where it has to stand.
-pub(crate) fn class_name(alloc: Global, members: &[(Text, Tree)]) -> Result<Text, Memory>
+/// The text under a key, where one has to stand.
+pub(crate) fn required_text(
+    alloc: Global,
+    members: &[(Text, Tree)],
+    key: Key,
+) -> Result<Text, Memory>
     ensures { IfOk result (λ text. text
-        ≡ or_empty (read value.text_of (tree_at itself members.now Key.Cls))) }
+        ≡ or_empty (read value.text_of (tree_at itself members.now key))) }
 {
-    match text_at(alloc, members, Key::Cls)? {
+    match text_at(alloc, members, key)? {
         Some(text) => Ok(text),
         None => Text::from_str(alloc, ""),
     }
@@ -71,7 +76,7 @@ pub(crate) fn enum_rule(alloc: Global, members: &[(Text, Tree)]) -> Result<EnumR
     ensures { IfOk result (λ rule. rule ≡ spec.enum_rule (tree_at itself members.now)) }
 {
     Ok(EnumRule {
-        cls: class_name(alloc, members)?,
+        cls: required_text(alloc, members, Key::Cls)?,
         members: enum_members_at(alloc, members, Key::Members)?,
         sub_type: sub_type_at(members, Key::SubType),
     })
@@ -99,5 +104,17 @@ pub(crate) fn tuple_rule(positions: u64, members: &[(Text, Tree)]) -> GatherRule
         variadic_item_index: count_at(members, Key::VariadicItemIndex),
         min_length: count_at(members, Key::MinLength),
         max_length: count_at(members, Key::MaxLength),
+    }
+}
+
+/// The function that a node names.
+pub(crate) fn func_rule(alloc: Global, members: &[(Text, Tree)]) -> Result<FuncRule, Memory>
+    ensures { IfOk result (λ rule. rule ≡ spec.func_rule (tree_at itself members.now)) }
+{
+    match function_at(alloc, members, Key::Function)? {
+        Some(function) => Ok(FuncRule { function }),
+        None => Ok(FuncRule {
+            function: Text::from_str(alloc, "")?,
+        }),
     }
 }

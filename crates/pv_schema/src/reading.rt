@@ -1,21 +1,19 @@
-ghost use Rattle.std.specs.Prelude.{IfOk};
+ghost use Rattle.pv_node.specs.Allowed.{AreAllowed};
 ghost use Rattle.pv_schema.specs.Reading as spec;
 ghost use Rattle.pv_schema.specs.Reading.{Reads, schema_of};
-ghost use Rattle.pv_schema.specs.Allowed.{AreAllowed};
 
-use crate::check_fault::CheckFault;
-use crate::checking::check;
-use crate::fault::{Code, SchemaFault};
-use crate::kind::Kind;
 use crate::making::make_node;
+use crate::schema_fault::SchemaFault;
 use pv_node::{MAX_NODES, Node, Schema, count_nodes};
+use pv_schema_check::{CheckFault, Code, check};
+use pv_schema_table::Kind;
 use pv_text::Memory;
 use pv_tree::Tree;
 use std::alloc::Global;
 
 impl From<Memory> for SchemaFault {
     ghost use Rattle.std.specs.Prelude.{◌≡◌};
-    ghost use Rattle.pv_schema.specs.declared.fault.SchemaFault.TheVariants.{Memory};
+    ghost use Rattle.pv_schema.specs.declared.schema_fault.SchemaFault.TheVariants.{Memory};
 
     ghost from_gives = { λ _ e. e ≡ Memory };
 
@@ -26,6 +24,7 @@ impl From<Memory> for SchemaFault {
 
 /// A schema with this root, where it has few enough nodes.
 fn counted(alloc: Global, root: Node) -> Result<Schema, SchemaFault>
+    requires { AreAllowed root }
     ensures { Reads result (spec.counted root) }
 {
     let count = count_nodes(&root)?;
@@ -40,8 +39,7 @@ fn counted(alloc: Global, root: Node) -> Result<Schema, SchemaFault>
 /// docs/SCHEMAS.md has the table of keys and the order of refusals.
 #[tactic(auto, unfolding(crate::specs::Reading::schema_of))]
 pub fn read_schema(alloc: Global, t: &Tree) -> Result<Schema, SchemaFault>
-    ensures reads { Reads result (schema_of t.now) }
-    ensures allowed { IfOk result (λ s. AreAllowed s) }
+    ensures { Reads result (schema_of t.now) }
 {
     match check(alloc, Kind::Schema, t) {
         Ok(()) => {

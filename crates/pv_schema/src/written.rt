@@ -2,16 +2,16 @@
 
 ghost use Rattle.std.specs.Prelude.{◌≡◌, IfOk, unwrap_or};
 ghost use Rattle.pv_schema_values.specs.Values as value;
-ghost use Rattle.pv_schema.specs.Keys.{itself, tree_at};
+ghost use Rattle.pv_schema_check.specs.Find.{itself, tree_at};
 ghost use Rattle.pv_schema.specs.Written as spec;
 ghost use Rattle.pv_schema.specs.Written.{or_empty, read};
 
-use crate::finding::find;
-use crate::key::Key;
-use pv_rules::{AliasRule, EnumMember, ExtraBehavior, Literal, OnError, SubType};
+use pv_rules::{AliasRule, EnumMember, ExtraBehavior, Literal, OnError, SubType, UnionMode};
+use pv_schema_check::find;
+use pv_schema_table::Key;
 use pv_schema_values::{
-    alias_of, count_of, extra_behavior_of, flag_of, int_of, literals_of, members_of, on_error_of,
-    positive_of, sub_type_of, text_of, texts_of, version_of,
+    alias_of, count_of, extra_behavior_of, flag_of, function_of, int_of, literals_of, members_of,
+    on_error_of, positive_of, sub_type_of, text_of, texts_of, union_mode_of, version_of,
 };
 use pv_text::{Memory, Text};
 use pv_tree::{Names, Tree};
@@ -135,6 +135,33 @@ pub(crate) fn text_at(
             None => Ok(None),
         },
         None => Ok(None),
+    }
+}
+
+/// The name of a function under a key.
+pub(crate) fn function_at(
+    alloc: Global,
+    members: &[(Text, Tree)],
+    key: Key,
+) -> Result<Option<Text>, Memory>
+    ensures { IfOk result (λ found. found
+        ≡ read value.function_of (tree_at itself members.now key)) }
+{
+    match find(members, key) {
+        Some(tree) => match function_of(tree) {
+            Some(name) => Ok(Some(name.share(alloc)?)),
+            None => Ok(None),
+        },
+        None => Ok(None),
+    }
+}
+
+pub(crate) fn union_mode_at(members: &[(Text, Tree)], key: Key) -> Option<UnionMode>
+    ensures { result ≡ read value.union_mode_of (tree_at itself members.now key) }
+{
+    match find(members, key) {
+        Some(tree) => union_mode_of(tree),
+        None => None,
     }
 }
 

@@ -8,7 +8,7 @@ use Rattle.std.specs.HashSet.{HashSet, hash_set_len}
 use Rattle.std.specs.Set.{distinct_count, unique_keys}
 use Rattle.std.proofs.lemmas.Map.Made.{hash_set_len-from_list, distinct_count-le}
 use Rattle.std.proofs.lemmas.Grind.{common_steps}
-use Rattle.pv_schema_values.specs.Values.{are_distinct}
+use Rattle.pv_rules.specs.Members.{are_distinct}
 
 one_more : (m n : ℕ) (there later : Bool) → m ≤ n → nat_eq m n ≡ later → nat_eq (cond there m (suc m)) (suc n) ≡ (not there && later)
 one_more m n true later le same = grind (arith, common_steps)

@@ -1,13 +1,11 @@
 -- What a tree stands for under a key of a schema, where it holds no schema: nothing where it may
 -- not stand there.
-use Rattle.std.specs.Prelude.{ℕ, Bool, true, false, not, ◌&&◌, ◌||◌, nat_le, if◌then◌else◌, bytes_eq}
-use Rattle.std.specs.Prelude.{List, [], ◌∷◌, codes, ℤ, pos, negsuc}
+use Rattle.std.specs.Prelude.{ℕ, Bool, true, false, not, ◌&&◌, ◌||◌, nat_le, if◌then◌else◌}
+use Rattle.std.specs.Prelude.{List, [], ◌∷◌, codes, bytes_eq, ℤ, pos, negsuc}
 use Rattle.std.specs.Prelude.{Option, None, Some, is_some, option_map, option_and_then}
 use Rattle.std.specs.Option.{option_or}
-use Rattle.std.specs.List.{list_any}
-use Rattle.std.specs.Ordering.{int_eq}
 use Rattle.pv_number.specs.WrittenIntegers.{integer}
-use Rattle.pv_tree.specs.Parts.{text_at, lexeme_at, flag_at, items_at}
+use Rattle.pv_tree.specs.Parts.{text_at, lexeme_at, flag_at, items_at, members_at}
 use Rattle.pv_tree.specs.declared.Tree.{Tree, out-Tree}
 use Rattle.pv_tree.specs.declared.Tree.TheOpen.{Tree-F}
 use Rattle.pv_tree.specs.declared.Step.{Step}
@@ -22,6 +20,9 @@ use Rattle.pv_rules.specs.declared.Literal.TheVariants as literal
 use Rattle.pv_rules.specs.declared.EnumMember.{EnumMember}
 use Rattle.pv_rules.specs.declared.SubType.{SubType}
 use Rattle.pv_rules.specs.declared.SubType.TheVariants as sub_type
+use Rattle.pv_rules.specs.declared.UnionMode.{UnionMode}
+use Rattle.pv_rules.specs.declared.UnionMode.TheVariants as union_mode
+use Rattle.pv_rules.specs.Members.{are_members}
 use Rattle.pv_schema_values.specs.declared.value_kind.ValueKind.{ValueKind}
 use Rattle.pv_schema_values.specs.declared.value_kind.ValueKind.TheVariants as value
 
@@ -67,6 +68,11 @@ abbrev pub is_false : Option Bool → Bool
 is_false None = false
 is_false (Some b) = not b
 
+-- whether there is a flag, and it is true
+abbrev pub is_true : Option Bool → Bool
+is_true None = false
+is_true (Some b) = b
+
 -- whether there is a text, and it is this word
 abbrev pub is_word : List ℕ → Option (List ℕ) → Bool
 is_word word None = false
@@ -109,6 +115,38 @@ on_error_by (Some text) =
 -- what `raise` and `default` name
 unfoldable pub on_error_of : Tree → Option OnError
 on_error_of t = on_error_by (text_of t)
+
+-- how a union takes one of its choices, where there is a text
+abbrev pub union_mode_by : Option (List ℕ) → Option UnionMode
+union_mode_by None = None
+union_mode_by (Some text) =
+    if bytes_eq text (codes "smart")
+    then Some union_mode.Smart
+    else (if bytes_eq text (codes "left_to_right") then Some union_mode.LeftToRight else None)
+
+-- what `smart` and `left_to_right` name
+unfoldable pub union_mode_of : Tree → Option UnionMode
+union_mode_of t = union_mode_by (text_of t)
+
+-- the name of a function, by the member that says its type and by the one that names it
+abbrev pub function_by : List ℕ × Tree → List ℕ × Tree → Option (List ℕ)
+function_by kind name =
+    if bytes_eq kind.0 (codes "type")
+    && (is_word (codes "no-info") (text_of kind.1) && bytes_eq name.0 (codes "function"))
+    then text_of name.1
+    else None
+
+-- the same of members, where these are two, in either order
+abbrev pub function_in : Option (List (List ℕ × Tree)) → Option (List ℕ)
+function_in None = None
+function_in (Some []) = None
+function_in (Some (m ∷ [])) = None
+function_in (Some (m ∷ n ∷ [])) = option_or (function_by m n) (function_by n m)
+function_in (Some (m ∷ n ∷ o ∷ ms)) = None
+
+-- a function: an object of the type `no-info` and the name, and of nothing else
+unfoldable pub function_of : Tree → Option (List ℕ)
+function_of t = function_in (members_at (out-Tree t))
 
 -- whether there is a text, and it says when instances of a model are validated again
 abbrev pub is_revalidation : Option (List ℕ) → Bool
@@ -226,42 +264,6 @@ member_in (Some (name ∷ value ∷ more ∷ ts)) = None
 unfoldable pub member_of : Tree → Option EnumMember
 member_of t = member_in (items_at (out-Tree t))
 
--- no two of them are equal
-abbrev pub are_distinct : {X : Type 0} → (X → X → Bool) → List X → Bool
-are_distinct eq [] = true
-are_distinct eq (x ∷ xs) = not (list_any (eq x) xs) && are_distinct eq xs
-
--- the names of the members
-abbrev pub names_in : List EnumMember → List (List ℕ)
-names_in [] = []
-names_in (m ∷ ms) = m.name ∷ names_in ms
-
--- an int before others, where the value is one
-abbrev pub int_first : Literal → List ℤ → List ℤ
-int_first (literal.Int n) ns = n ∷ ns
-int_first l ns = ns
-
--- the ints among the values of the members
-abbrev pub ints_in : List EnumMember → List ℤ
-ints_in [] = []
-ints_in (m ∷ ms) = int_first m.value (ints_in ms)
-
--- a text before others, where the value is one
-abbrev pub text_first : Literal → List (List ℕ) → List (List ℕ)
-text_first (literal.Text text) ts = text ∷ ts
-text_first l ts = ts
-
--- the texts among the values of the members
-abbrev pub texts_in : List EnumMember → List (List ℕ)
-texts_in [] = []
-texts_in (m ∷ ms) = text_first m.value (texts_in ms)
-
--- no name stands twice, and no value
-unfoldable pub are_members : List EnumMember → Bool
-are_members ms =
-    are_distinct bytes_eq (names_in ms)
-    && (are_distinct int_eq (ints_in ms) && are_distinct bytes_eq (texts_in ms))
-
 -- members, where no name stands twice, and no value
 abbrev pub where_distinct : Option (List EnumMember) → Option (List EnumMember)
 where_distinct None = None
@@ -277,6 +279,7 @@ is_value value.Anything t = true
 is_value value.Text t = is_some (text_of t)
 is_value value.Flag t = is_some (flag_of t)
 is_value value.False t = is_false (flag_of t)
+is_value value.True t = is_true (flag_of t)
 is_value value.Count t = is_some (count_of t)
 is_value value.Int t = is_some (int_of t)
 is_value value.AtLeastOne t = is_some (positive_of t)
@@ -291,3 +294,5 @@ is_value value.OnError t = is_some (on_error_of t)
 is_value value.Revalidation t = is_revalidation (text_of t)
 is_value value.EmptyList t = is_empty_list (items_at (out-Tree t))
 is_value value.Alias t = is_some (alias_of t)
+is_value value.UnionMode t = is_some (union_mode_of t)
+is_value value.Function t = is_some (function_of t)

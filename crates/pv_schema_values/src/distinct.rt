@@ -1,7 +1,7 @@
 //! Whether keys are distinct.
 
 ghost use Rattle.std.specs.Prelude.{◌≡◌, IfOk};
-ghost use Rattle.pv_schema_values.specs.Values as spec;
+ghost use Rattle.pv_rules.specs.Members as spec;
 
 use pv_text::Memory;
 use std::alloc::Global;

@@ -3,6 +3,7 @@
 
 mod aliases;
 mod distinct;
+mod functions;
 mod lists;
 mod literals;
 mod members;
@@ -14,6 +15,7 @@ mod values;
 mod words;
 
 pub use aliases::alias_of;
+pub use functions::function_of;
 pub use literals::literals_of;
 pub use members::members_of;
 pub use numbers::{count_of, int_of, positive_of, version_of};
@@ -21,4 +23,4 @@ pub use plain_values::{flag_of, text_of};
 pub use texts::texts_of;
 pub use value_kind::ValueKind;
 pub use values::is_value;
-pub use words::{extra_behavior_of, on_error_of, sub_type_of};
+pub use words::{extra_behavior_of, on_error_of, sub_type_of, union_mode_of};

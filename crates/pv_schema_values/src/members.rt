@@ -1,6 +1,7 @@
 //! Members of enums.
 
 ghost use Rattle.std.specs.Prelude.{◌≡◌, IfOk};
+ghost use Rattle.pv_rules.specs.Members as distinct;
 ghost use Rattle.pv_schema_values.specs.Values as spec;
 
 use crate::distinct::are_distinct;
@@ -52,7 +53,7 @@ impl FromTree for EnumMember {
 }
 
 fn names_in(alloc: Global, members: &[EnumMember]) -> Result<Vec<Text>, Memory>
-    ensures { IfOk result (λ names. names.items ≡ spec.names_in members.now) }
+    ensures { IfOk result (λ names. names.items ≡ distinct.names_in members.now) }
 {
     let mut names = Vec::with_capacity(alloc, members.len())?;
     for member in members {
@@ -62,7 +63,7 @@ fn names_in(alloc: Global, members: &[EnumMember]) -> Result<Vec<Text>, Memory>
 }
 
 fn ints_in(alloc: Global, members: &[EnumMember]) -> Result<Vec<i128>, Memory>
-    ensures { IfOk result (λ ints. ints.items ≡ spec.ints_in members.now) }
+    ensures { IfOk result (λ ints. ints.items ≡ distinct.ints_in members.now) }
 {
     let mut ints = Vec::new(alloc);
     for member in members {
@@ -75,7 +76,7 @@ fn ints_in(alloc: Global, members: &[EnumMember]) -> Result<Vec<i128>, Memory>
 }
 
 fn texts_in(alloc: Global, members: &[EnumMember]) -> Result<Vec<Text>, Memory>
-    ensures { IfOk result (λ texts. texts.items ≡ spec.texts_in members.now) }
+    ensures { IfOk result (λ texts. texts.items ≡ distinct.texts_in members.now) }
 {
     let mut texts = Vec::new(alloc);
     for member in members {
@@ -88,9 +89,9 @@ fn texts_in(alloc: Global, members: &[EnumMember]) -> Result<Vec<Text>, Memory>
 }
 
 /// Whether no name stands twice, and no value.
-#[tactic(auto, unfolding(crate::specs::Values::are_members))]
+#[tactic(auto, unfolding(pv_rules::specs::Members::are_members))]
 fn are_members(alloc: Global, members: &[EnumMember]) -> Result<bool, Memory>
-    ensures { IfOk result (λ b. b ≡ spec.are_members members.now) }
+    ensures { IfOk result (λ b. b ≡ distinct.are_members members.now) }
 {
     if !are_distinct(alloc, names_in(alloc, members)?)? {
         return Ok(false);

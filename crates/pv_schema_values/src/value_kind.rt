@@ -6,6 +6,8 @@ pub enum ValueKind {
     Flag,
     /// The flag false alone.
     False,
+    /// The flag true alone.
+    True,
     /// An integer from 0 to 4,294,967,295.
     Count,
     /// An integer of 128 bits.
@@ -36,4 +38,8 @@ pub enum ValueKind {
     /// A text, a path, or a list of paths that is not empty. A path is a list of texts and counts
     /// that begins with a text.
     Alias,
+    /// `smart` or `left_to_right`.
+    UnionMode,
+    /// An object of two members: `type`, which is `no-info`, and `function`, a text.
+    Function,
 }

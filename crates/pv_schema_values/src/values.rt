@@ -1,18 +1,19 @@
 //! Values of each kind.
 
-ghost use Rattle.std.specs.Prelude.{◌≡◌, IfOk, codes};
+ghost use Rattle.std.specs.Prelude.{◌≡◌, IfOk};
 ghost use Rattle.pv_tree.specs.Parts.{items_at};
 ghost use Rattle.pv_tree.specs.declared.Tree.{out-Tree};
 ghost use Rattle.pv_schema_values.specs.Values as spec;
 
 use crate::aliases::alias_of;
+use crate::functions::function_of;
 use crate::literals::literals_of;
 use crate::members::members_of;
 use crate::numbers::{count_of, int_of, positive_of, version_of};
 use crate::plain_values::{flag_of, text_of};
 use crate::texts::texts_of;
 use crate::value_kind::ValueKind;
-use crate::words::{extra_behavior_of, on_error_of, sub_type_of};
+use crate::words::{extra_behavior_of, is_word, on_error_of, sub_type_of, union_mode_of};
 use pv_text::Memory;
 use pv_tree::Tree;
 use std::alloc::Global;
@@ -26,12 +27,12 @@ fn is_false(flag: Option<bool>) -> bool
     }
 }
 
-fn is_engine(tree: &Tree) -> bool
-    ensures { result ≡ spec.is_word (codes "rust-regex") (spec.text_of tree.now) }
+fn is_true(flag: Option<bool>) -> bool
+    ensures { result ≡ spec.is_true flag }
 {
-    match text_of(tree) {
+    match flag {
         None => false,
-        Some(text) => text.as_str() == "rust-regex",
+        Some(flag) => flag,
     }
 }
 
@@ -68,11 +69,12 @@ pub fn is_value(alloc: Global, kind: ValueKind, tree: &Tree) -> Result<bool, Mem
         ValueKind::Text => Ok(text_of(tree).is_some()),
         ValueKind::Flag => Ok(flag_of(tree).is_some()),
         ValueKind::False => Ok(is_false(flag_of(tree))),
+        ValueKind::True => Ok(is_true(flag_of(tree))),
         ValueKind::Count => Ok(count_of(tree).is_some()),
         ValueKind::Int => Ok(int_of(tree).is_some()),
         ValueKind::AtLeastOne => Ok(positive_of(tree).is_some()),
         ValueKind::Version => Ok(version_of(tree).is_some()),
-        ValueKind::Engine => Ok(is_engine(tree)),
+        ValueKind::Engine => Ok(is_word("rust-regex", tree)),
         ValueKind::SubType => Ok(sub_type_of(tree).is_some()),
         ValueKind::Texts => Ok(texts_of(alloc, tree)?.is_some()),
         ValueKind::Literals => Ok(literals_of(alloc, tree)?.is_some()),
@@ -82,5 +84,7 @@ pub fn is_value(alloc: Global, kind: ValueKind, tree: &Tree) -> Result<bool, Mem
         ValueKind::Revalidation => Ok(is_revalidation(tree)),
         ValueKind::EmptyList => Ok(is_empty_list(tree)),
         ValueKind::Alias => Ok(alias_of(alloc, tree)?.is_some()),
+        ValueKind::UnionMode => Ok(union_mode_of(tree).is_some()),
+        ValueKind::Function => Ok(function_of(tree).is_some()),
     }
 }

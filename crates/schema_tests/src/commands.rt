@@ -12,7 +12,7 @@ fn no_words_are_refused_at_the_first_place(rt: HostRuntime) {
     assert!(rt; matches!(command(&words), Ok(Asked::Refused { at: 1 })));
 }
 
-/// What the definition says of words that the program does not take yet.
+/// What the definition says of the words of commands other than `validate`.
 fn words_of_other_commands()
     ensures check { spec.command (codes "check" ∷ codes "-" ∷ []) ≡ Ok (asked.Check (codes "-")) }
     ensures check_more { spec.command (codes "check" ∷ codes "S" ∷ codes "D" ∷ []) ≡ Err 3 }

@@ -1,3 +1,4 @@
+use crate::fixtures::no_functions;
 use pv_engine::validate;
 use pv_fault::Outcome;
 use pv_node::{Body, MAX_NODES, Node, Schema, count_nodes};
@@ -52,7 +53,7 @@ fn plan_of(rt: &impl Abort, alloc: Global, root: Node) -> Plan {
     let count = count_nodes(&root).expect(rt, "memory");
     assert!(rt; count <= MAX_NODES);
     let schema = Schema::new(alloc, root).expect(rt, "memory");
-    let Ok(plan) = build(alloc, &schema) else {
+    let Ok(plan) = build(alloc, &schema, &no_functions(alloc)) else {
         panic!(rt; "a plan");
     };
     plan
@@ -69,10 +70,11 @@ fn steps_to_error(outcome: &Outcome) -> Option<usize> {
 #[test]
 fn a_thousand_nodes_are_entered_below_one_another(rt: HostRuntime) {
     let alloc = rt.alloc();
+    let registry = no_functions(alloc);
     for (levels, steps) in [(999u64, None), (1000, Some(1000usize))] {
         let plan = plan_of(&rt, alloc, nested_lists(&rt, alloc, levels));
         let tree = nested_arrays(&rt, alloc, levels);
-        let outcome = validate(alloc, &plan, None, &tree).expect(&rt, "memory");
+        let outcome = validate(alloc, &plan, &registry, None, &tree).expect(&rt, "memory");
         assert_eq!(rt; steps_to_error(&outcome), steps, "{levels}");
     }
 }

@@ -2,10 +2,12 @@
 //! line: a proof does not look into them.
 
 use pv_fault::{Grade, Outcome, write_faults};
+use pv_func::Registry;
 use pv_json::read;
 use pv_node::Schema;
 use pv_notation::write_value;
 use pv_schema::read_schema;
+use pv_shipped::{Even, Pair, Strip, Upper};
 use pv_text::{ByteBuf, Text};
 use pv_tree::Tree;
 use std::alloc::Global;
@@ -31,6 +33,11 @@ pub(crate) fn schema(rt: &impl Abort, alloc: Global, json: &[u8]) -> Schema {
         panic!(rt; "a schema");
     };
     schema
+}
+
+/// A registry without functions.
+pub(crate) fn no_functions(alloc: Global) -> Registry<Strip, Even, Upper, Pair> {
+    Registry::new(alloc)
 }
 
 fn grade_name(grade: Grade) -> &'static str {

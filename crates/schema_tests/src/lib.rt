@@ -12,6 +12,8 @@ mod fixtures;
 #[cfg(test)]
 mod formats;
 #[cfg(test)]
+mod functions;
+#[cfg(test)]
 mod numbers;
 #[cfg(test)]
 mod plans;
@@ -21,5 +23,7 @@ mod runs;
 mod schemas;
 #[cfg(test)]
 mod tables;
+#[cfg(test)]
+mod unions;
 #[cfg(test)]
 mod values;

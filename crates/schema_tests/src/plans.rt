@@ -1,4 +1,4 @@
-use crate::fixtures::{cut, schema};
+use crate::fixtures::{cut, no_functions, schema};
 use pv_plan::{Op, Plan, build};
 use pv_rules::Collection;
 use std::alloc::Global;
@@ -11,6 +11,7 @@ const PLANS: &str =
 3 {"type":"dict","keys_schema":{"type":"any"},"values_schema":{"type":"any"}} dict 1 2;scalar;scalar;scalar;
 6 {"type":"model","cls":"M","config":{"strict":true,"validate_default":true},"schema":{"type":"model-fields","fields":{"a":{"type":"model-field","schema":{"type":"default","default":1,"validate_default":false,"schema":{"type":"int"}}},"b":{"type":"model-field","schema":{"type":"int","strict":false}}},"extras_schema":{"type":"str"}}} model 1 strict validates;fields 2 4 5 strict validates;default 3 strict;scalar strict validates;scalar validates;scalar strict validates;scalar;
 2 {"type":"typed-dict","fields":{"a":{"type":"typed-dict-field","schema":{"type":"int"}}},"config":{"strict":true}} fields 1 strict;scalar strict;scalar;
+10 {"type":"union","choices":[{"type":"lax-or-strict","lax_schema":{"type":"int"},"strict_schema":{"type":"bool"}},{"type":"json-or-python","json_schema":{"type":"str"},"python_schema":{"type":"none"}},{"type":"custom-error","custom_error_type":"bad","custom_error_message":"No","schema":{"type":"int"}},{"type":"tagged-union","discriminator":"k","choices":{"a":{"type":"dict"}}}]} union 1 4 6 8;lax-or-strict 2 3;scalar;scalar;inner 5;scalar;custom-error 7;scalar;tagged-union 9;dict 10 10;scalar;
 1 {"type":"any"} scalar;scalar;"#;
 
 fn name_of(op: &Op) -> &'static str {
@@ -27,6 +28,15 @@ fn name_of(op: &Op) -> &'static str {
         Op::Fields(_) => "fields",
         Op::Model { .. } => "model",
         Op::Default { .. } => "default",
+        Op::Union { .. } => "union",
+        Op::TaggedUnion(_) => "tagged-union",
+        Op::LaxOrStrict => "lax-or-strict",
+        Op::Inner => "inner",
+        Op::CustomError { .. } => "custom-error",
+        Op::Before { .. } => "before",
+        Op::After { .. } => "after",
+        Op::Wrap { .. } => "wrap",
+        Op::Plain { .. } => "plain",
     }
 }
 
@@ -50,7 +60,8 @@ fn written(rt: &impl Abort, alloc: Global, plan: &Plan) -> String {
 }
 
 fn plan(rt: &impl Abort, alloc: Global, json: &str) -> Plan {
-    let Ok(plan) = build(alloc, &schema(rt, alloc, json.as_bytes())) else {
+    let schema = schema(rt, alloc, json.as_bytes());
+    let Ok(plan) = build(alloc, &schema, &no_functions(alloc)) else {
         panic!(rt; "a plan");
     };
     plan

@@ -2,7 +2,7 @@
 
 ghost use Rattle.std.specs.Prelude.{◌≡◌};
 
-use crate::fixtures::text;
+use crate::fixtures::{no_functions, text};
 use pv_cli::{Status, Words, run};
 use pv_edge::{MemShelf, MemSink};
 use pv_text::Bytes;
@@ -81,7 +81,8 @@ fn left_by(rt: &impl Abort, alloc: Global, setting: &Setting, document: &[u8]) -
     let mut shelf = shelf_of(rt, alloc, setting, document);
     let mut out = sink_of(rt, alloc, setting.room, setting.failing_write);
     let mut err = sink_of(rt, alloc, 1000, None);
-    let status = run(alloc, &words, &mut shelf, &mut out, &mut err);
+    let registry = no_functions(alloc);
+    let status = run(alloc, &words, &mut shelf, &mut out, &mut err, &registry);
     Left { status, out, err }
 }
 

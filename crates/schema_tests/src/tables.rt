@@ -1,7 +1,7 @@
 //! The table of types and keys, as docs/SCHEMAS.md has it.
 
 use pv_rules::FieldsKind;
-use pv_schema::{KeyRow, Kind, Makes, TypeRow, config, field_types, node_types};
+use pv_schema_table::{KeyRow, Kind, Makes, TypeRow, config, field_types, node_types};
 use std::alloc::Global;
 use std::process::Abort;
 
@@ -27,17 +27,17 @@ default schema*:schema default*:Anything validate_default:Flag on_error:OnError 
 model-fields fields*:fields extra_behavior:ExtraBehavior extras_schema:schema model_name~:Text from_attributes~:Flag computed_fields~:EmptyList
 typed-dict fields*:fields extra_behavior:ExtraBehavior extras_schema:schema computed_fields~:EmptyList cls:Text total:Flag config:config
 model cls*:Text schema*:schema root_model:Flag config:config custom_init~:False frozen~:Flag revalidate_instances~:Revalidation
-union?
-tagged-union?
-lax-or-strict?
-json-or-python?
-custom-error?
-function-before?
-function-after?
-function-wrap?
-function-plain?
-definitions?
-definition-ref?
+union choices*:choices mode:UnionMode auto_collapse~:True
+tagged-union choices*:tagged discriminator*:Alias from_attributes~:Flag
+lax-or-strict lax_schema*:schema strict_schema*:schema
+json-or-python json_schema*:schema python_schema*~:Anything
+custom-error schema*:schema custom_error_type*:Text custom_error_message*:Text
+function-before function*:Function schema*:schema
+function-after function*:Function schema*:schema
+function-wrap function*:Function schema*:schema
+function-plain function*:Function
+definitions schema*:schema definitions*:definitions
+definition-ref schema_ref*:Text
 "#;
 
 const FIELDS: &str = r#"model-field frozen~:Flag
@@ -45,7 +45,7 @@ typed-dict-field required:Flag
 "#;
 
 /// The keys that all nodes take, and those of all fields.
-const SHARED: &str = " type*:Text ref:? strict:Flag serialization:? metadata~:Anything";
+const SHARED: &str = " type*:Text ref:Text strict:Flag serialization:? metadata~:Anything";
 
 const SHARED_BY_FIELDS: &str =
     " type*:Text schema*:schema validation_alias:Alias serialization_alias:Text serialization_exclude:Flag metadata~:Anything";
@@ -59,6 +59,11 @@ fn word_of(rt: &impl Abort, alloc: Global, kind: Kind) -> String {
         Kind::Value(value) => format!(in alloc; "{value:?}"),
         Kind::Schema => format!(in alloc; "schema"),
         Kind::Schemas => format!(in alloc; "schemas"),
+        Kind::Choices => format!(in alloc; "choices"),
+        Kind::Choice => format!(in alloc; "choice"),
+        Kind::Tagged => format!(in alloc; "tagged"),
+        Kind::Definitions => format!(in alloc; "definitions"),
+        Kind::Definition => format!(in alloc; "definition"),
         Kind::Fields(_) => format!(in alloc; "fields"),
         Kind::Field(_) => format!(in alloc; "field"),
         Kind::Config => format!(in alloc; "config"),

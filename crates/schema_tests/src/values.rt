@@ -1,18 +1,19 @@
 use crate::fixtures::{cut, tree};
 use ValueKind::{
-    Alias, Anything, AtLeastOne, Count, EmptyList, Engine, ExtraBehavior, False, Flag, Int,
-    Literals, Members, OnError, Revalidation, SubType, Text, Texts, Version,
+    Alias, Anything, AtLeastOne, Count, EmptyList, Engine, ExtraBehavior, False, Flag, Function,
+    Int, Literals, Members, OnError, Revalidation, SubType, Text, Texts, True, UnionMode, Version,
 };
 use pv_rules::Literal;
 use pv_schema_values::{ValueKind, is_value, members_of};
 use std::alloc::Global;
 use std::process::Abort;
 
-const KINDS: [ValueKind; 18] = [
+const KINDS: [ValueKind; 21] = [
     Anything,
     Text,
     Flag,
     False,
+    True,
     Count,
     Int,
     AtLeastOne,
@@ -27,12 +28,14 @@ const KINDS: [ValueKind; 18] = [
     Revalidation,
     EmptyList,
     Alias,
+    UnionMode,
+    Function,
 ];
 
 /// JSON, and the kinds of values that it may stand for.
 const VALUES: &str = r#"null Anything
 {} Anything
-true Anything Flag
+true Anything Flag True
 false Anything Flag False
 -1 Anything Int
 -0 Anything Count Int
@@ -82,6 +85,16 @@ false Anything Flag False
 "always" Anything Text Revalidation Alias
 "never" Anything Text Revalidation Alias
 "subclass-instances" Anything Text Revalidation Alias
+"smart" Anything Text UnionMode Alias
+"left_to_right" Anything Text UnionMode Alias
+"left-to-right" Anything Text Alias
+{"type":"no-info","function":"f"} Anything Function
+{"function":"","type":"no-info"} Anything Function
+{"type":"no-info","function":null} Anything
+{"type":"with-info","function":"f"} Anything
+{"type":"no-info","schema":"f"} Anything
+{"type":"no-info"} Anything
+{"type":"no-info","function":"f","schema":{}} Anything
 ["a",4294967295] Anything Literals Alias
 ["a",4294967296] Anything Literals
 [["a"],"b"] Anything"#;

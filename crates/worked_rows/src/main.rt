@@ -1,13 +1,18 @@
 //! Runs worked rows in memory and prints what each leaves. A row is a line: the words, the schema
-//! file `S` and the document file `D`, with a tab between two of them.
+//! file `S` and the document file `D`, with a tab between two of them. The functions are the
+//! shipped ones.
 #![tactic(auto)]
 
 ghost use Rattle.std.specs.Prelude.{◌≡◌, IfOk};
 
 use pv_cli::{Words, run};
 use pv_edge::{MemShelf, MemSink, PutFault};
+use pv_func::{AddFault, AfterFn, BeforeFn, PlainFn, Registry, WrapFn};
+use pv_shipped::{
+    Constant, Deepen, Even, Listify, OrNull, Pair, Positive, SplitCommas, Strip, Unhex, Upper,
+};
 use pv_text::{Bytes, Memory, Text};
-use std::alloc::Global;
+use std::alloc::{AllocFailed, Global};
 use std::io;
 
 /// How many bytes an answer may have.
@@ -25,6 +30,18 @@ impl From<Memory> for NoRow {
 
 impl From<PutFault> for NoRow {
     fn from(_e: PutFault) -> NoRow {
+        NoRow
+    }
+}
+
+impl From<AddFault> for NoRow {
+    fn from(_e: AddFault) -> NoRow {
+        NoRow
+    }
+}
+
+impl<T: Drop> From<AllocFailed<T>> for NoRow {
+    fn from(_e: AllocFailed<T>) -> NoRow {
         NoRow
     }
 }
@@ -76,12 +93,32 @@ struct Left {
     err: MemSink,
 }
 
+/// The objects of all kinds, in boxes.
+type Boxes = Registry<Box<dyn BeforeFn>, Box<dyn AfterFn>, Box<dyn PlainFn>, Box<dyn WrapFn>>;
+
+fn name(alloc: Global, name: &str) -> Result<Text, Memory> {
+    Text::from_str(alloc, name)
+}
+
+/// Runs one row with the shipped functions.
 fn run_row(alloc: Global, words: &str, schema: &str, document: &str) -> Result<Left, NoRow> {
+    let mut registry: Boxes = Registry::new(alloc);
+    registry.add_before(name(alloc, "strip")?, Box::new(alloc, Strip)?)?;
+    registry.add_before(name(alloc, "split_commas")?, Box::new(alloc, SplitCommas)?)?;
+    registry.add_after(name(alloc, "even")?, Box::new(alloc, Even)?)?;
+    registry.add_after(name(alloc, "positive")?, Box::new(alloc, Positive)?)?;
+    registry.add_plain(name(alloc, "upper")?, Box::new(alloc, Upper)?)?;
+    registry.add_plain(name(alloc, "unhex")?, Box::new(alloc, Unhex)?)?;
+    registry.add_wrap(name(alloc, "listify")?, Box::new(alloc, Listify)?)?;
+    registry.add_wrap(name(alloc, "or_null")?, Box::new(alloc, OrNull)?)?;
+    registry.add_wrap(name(alloc, "pair")?, Box::new(alloc, Pair)?)?;
+    registry.add_wrap(name(alloc, "deepen")?, Box::new(alloc, Deepen)?)?;
+    registry.add_wrap(name(alloc, "constant")?, Box::new(alloc, Constant)?)?;
     let words = words_of(alloc, words)?;
     let mut shelf = shelf_of(alloc, schema, document)?;
     let mut out = sink_of(alloc)?;
     let mut err = sink_of(alloc)?;
-    let status = run(alloc, &words, &mut shelf, &mut out, &mut err).code();
+    let status = run(alloc, &words, &mut shelf, &mut out, &mut err, &registry).code();
     Ok(Left { status, out, err })
 }
 

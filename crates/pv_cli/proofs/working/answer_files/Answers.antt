@@ -14,11 +14,11 @@ returns-in-Answered-clause-reply g c =
     let held = g.F.Shelf.held c.args.shelf.now in
     let bytes = c.in-Ok.bytes in
     let is = rw c.as_str.ensures at c.in-Ok.ensures.bytes in
-    let next = reads_document c.args.strict c.args.document_name.now in
+    let next = reads_document (g.R.Objects.functions c.args.registry.now) c.args.strict c.args.document_name.now in
     let told = rw c.as_slice.ensures at c.in_ok-plan.ensures in
     let decides = sym told ∙ ap shown c.in-Answered.is in
-    loaded held c.args.schema_name.now bytes file_limit (λ content. of_schema next (schema_or_answer (schema_file (reading 128 content)))) _ _ c.in-Answered.answer is c.in-Ok.ensures.size
-    (decided held (λ files. answer_of files (of_schema next (schema_or_answer (schema_file (reading 128 bytes))))) _ _ c.in-Answered.answer
+    loaded held c.args.schema_name.now bytes file_limit (λ content. of_schema next (schema_or_answer (schema_file (g.R.Objects.functions c.args.registry.now) (reading 128 content)))) _ _ c.in-Answered.answer is c.in-Ok.ensures.size
+    (decided held (λ files. answer_of files (of_schema next (schema_or_answer (schema_file (g.R.Objects.functions c.args.registry.now) (reading 128 bytes))))) _ _ c.in-Answered.answer
     (schema_unprinted _ c.in-Answered.answer decides).settled.read
     (λ files. sym (ap (λ r. answer_of files (of_schema next r)) decides)))
 
@@ -46,7 +46,7 @@ returns-clause-line g c = ok_then c.answer_file.result _ _ c.answer_file.ensures
 
 pub returns-in-Err-clause-reply : goal.returns-in-Err-clause-reply
 returns-in-Err-clause-reply g c =
-    let next = λ (content : List ℕ). of_schema (reads_document c.args.strict c.args.document_name.now) (schema_or_answer (schema_file (reading 128 content))) in
+    let next = λ (content : List ℕ). of_schema (reads_document (g.R.Objects.functions c.args.registry.now) c.args.strict c.args.document_name.now) (schema_or_answer (schema_file (g.R.Objects.functions c.args.registry.now) (reading 128 content))) in
     let failed = rw c.as_str.ensures at c.in-Err.ensures.failed in
     let over = rw c.as_str.ensures at c.in-Err.ensures.over in
     ok_then c.refuse_file.result _ _ c.refuse_file.ensures (λ a is. refusal_reply c.in-Err.fault (g.F.Shelf.held c.args.shelf.now) c.args.schema_name.now file_limit next _ _ a failed over is)

@@ -1,5 +1,5 @@
 use Rattle.std.proofs.Common.{◌≡◌, take}
-use Rattle.pv_schema.specs.Keys.{itself}
+use Rattle.pv_schema_check.specs.Find.{itself}
 use Rattle.pv_schema.specs.Fields as spec
 use Rattle.pv_schema.specs.Making.{fields_in, made}
 use Rattle.pv_schema.proofs.fields.field_rules.Given as goal

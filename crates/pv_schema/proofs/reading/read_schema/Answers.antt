@@ -1,6 +1,5 @@
-use Rattle.pv_schema.proofs.Allowing.{counted_is_allowed}
+use Rattle.pv_schema.proofs.Allowing.{right_is_allowed}
 use Rattle.pv_schema.proofs.reading.read_schema.Goals as goal
 
-pub returns-in_ok-root-in-Ok-clause-allowed : goal.returns-in_ok-root-in-Ok-clause-allowed
-returns-in_ok-root-in-Ok-clause-allowed c =
-    counted_is_allowed _ _ _ c.in-Ok.ensures c.in_ok-root-in-Ok.ensures c.counted.ensures
+pub counted-requires : goal.counted-requires
+counted-requires c = right_is_allowed _ _ c.in-Ok.ensures c.in_ok-root-in-Ok.ensures

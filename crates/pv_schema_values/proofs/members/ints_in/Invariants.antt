@@ -1,5 +1,5 @@
 use Rattle.std.proofs.Common.{◌≡◌, ◌++◌, drop}
-use Rattle.pv_schema_values.specs.Values.{ints_in}
+use Rattle.pv_rules.specs.Members.{ints_in}
 use Rattle.pv_schema_values.proofs.members.ints_in.Given as goal
 
 abbrev pub invariant-loop-member : goal.invariant-loop-member

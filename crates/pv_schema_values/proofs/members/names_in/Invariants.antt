@@ -1,5 +1,5 @@
 use Rattle.std.proofs.Common.{◌≡◌, ◌++◌, drop}
-use Rattle.pv_schema_values.specs.Values.{names_in}
+use Rattle.pv_rules.specs.Members.{names_in}
 use Rattle.pv_schema_values.proofs.members.names_in.Given as goal
 
 abbrev pub invariant-loop-member : goal.invariant-loop-member

@@ -18,7 +18,7 @@ decreases-lay_slot l = 3 * count_at (lent l.slot.now).node + 3
 
 abbrev pub invariant-lay_children-loop-place : goal.invariant-lay_children-loop-place
 invariant-lay_children-loop-place l = record {
-  table : (p : Path) → l.table.items ≡ l.initial.table.items ++ table_from l.self.root.now l.self.last (length l.initial.table.items) (flat_map (places_in p l.settings) (take l.place (slots_of l.node)));
+  table : (p : Path) → l.table.items ≡ l.initial.table.items ++ table_from l.self.names.now l.self.last (length l.initial.table.items) (flat_map (places_in p l.settings) (take l.place (slots_of l.node)));
   numbers : l.all ≡ l.initial.all ++ numbers l.self.last (length l.initial.table.items) (take l.place (slots_of l.node));
   pattern : first_in bad_in (drop l.place (slots_of l.node)) ≡ first_in bad_in (slots_of l.node);
 }

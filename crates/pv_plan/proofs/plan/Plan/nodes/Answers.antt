@@ -4,10 +4,10 @@ use Rattle.pv_plan.proofs.plan.Plan.nodes.Goals as goal
 
 pub overflow_sub-result : goal.overflow_sub-result
 overflow_sub-result c =
-    let size = counted c.args.self.now c.self.inside.schema c.self.inside.table c.self.invariant c.self.view_is in
+    let size = counted c.args.self.now c.self.inside.schema c.self.inside.table c.self.invariant.0 c.self.view_is in
     omega arith
 
 pub returns : goal.returns
 returns c =
-    let size = counted c.args.self.now c.self.inside.schema c.self.inside.table c.self.invariant c.self.view_is in
+    let size = counted c.args.self.now c.self.inside.schema c.self.inside.table c.self.invariant.0 c.self.view_is in
     omega arith

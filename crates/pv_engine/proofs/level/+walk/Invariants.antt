@@ -1,4 +1,0 @@
-use Rattle.pv_engine.proofs.level.+walk.Given as goal
-
-abbrev pub decreases-walk : goal.decreases-walk
-decreases-walk l = l.depth

@@ -1,5 +1,0 @@
-use Rattle.std.proofs.Common.{◌≡◌, ◌++◌, take}
-use Rattle.pv_engine.proofs.out.Out.enter.Given as goal
-
-abbrev pub invariant-loop-step : goal.invariant-loop-step
-invariant-loop-step l = (l.self.path ≡ l.fn.self.path ++ take l.step-index l.steps) × (l.self.errors ≡ l.fn.self.errors)

@@ -1,8 +1,0 @@
-use Rattle.std.proofs.Common.{refl, ap, ◌++◌, ◌∙◌}
-use Rattle.pv_engine.proofs.FieldTurns.{walked_at}
-use Rattle.pv_engine.proofs.rules.Rules.given.Goals as goal
-
-pub returns : goal.returns
-returns g c =
-    walked_at _ _ _ _ _ _ _ _ c.len-len.ensures (c.in_ok-enter.ensures.path ∙ ap (λ steps. c.args.out.now.path ++ steps) c.as_slice.ensures)
-    c.in_ok-enter.ensures.errors c.in_ok-found.ensures c.cut.ensures refl

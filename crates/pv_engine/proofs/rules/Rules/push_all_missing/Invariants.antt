@@ -1,6 +1,0 @@
-use Rattle.pv_collect.specs.Gathering.{missing_from}
-use Rattle.pv_engine.specs.Walks.{Adds}
-use Rattle.pv_engine.proofs.rules.Rules.push_all_missing.Given as goal
-
-abbrev pub invariant-loop-more : goal.invariant-loop-more
-invariant-loop-more g l = Adds l.fn.out l.out (missing_from l.items l.more l.tree)

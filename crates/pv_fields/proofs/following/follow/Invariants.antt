@@ -1,6 +1,0 @@
-use Rattle.std.proofs.Common.{◌≡◌, drop}
-use Rattle.pv_fields.specs.Finding.{follow}
-use Rattle.pv_fields.proofs.following.follow.Given as goal
-
-abbrev pub invariant-loop-step : goal.invariant-loop-step
-invariant-loop-step l = follow (drop l.step-index l.steps) l.here ≡ follow l.fn.steps l.fn.tree

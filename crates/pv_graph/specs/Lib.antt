@@ -1,0 +1,5 @@
+pub mod Walks
+pub mod Reaching
+pub mod Heights
+pub mod Marks
+pub mod Cycles

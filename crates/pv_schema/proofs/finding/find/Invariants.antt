@@ -1,7 +1,0 @@
-use Rattle.std.proofs.Common.{◌≡◌, drop}
-use Rattle.pv_schema.specs.Find as spec
-use Rattle.pv_schema.specs.Keys.{text}
-use Rattle.pv_schema.proofs.finding.find.Given as goal
-
-abbrev pub invariant-loop-name : goal.invariant-loop-name
-invariant-loop-name l = spec.find (text l.key) (drop l.name-index l.members) ≡ spec.find (text l.key) l.members

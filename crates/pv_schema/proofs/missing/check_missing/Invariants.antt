@@ -1,8 +1,0 @@
-use Rattle.std.proofs.Common.{◌≡◌, drop}
-use Rattle.pv_schema.specs.Checking as spec
-use Rattle.pv_schema.specs.Keys.{itself, tree_at}
-use Rattle.pv_schema.proofs.missing.check_missing.Given as goal
-
-abbrev pub invariant-loop-row : goal.invariant-loop-row
-invariant-loop-row l =
-    spec.missing (tree_at itself l.members) (drop l.row-index l.rows) ≡ spec.missing (tree_at itself l.members) l.rows

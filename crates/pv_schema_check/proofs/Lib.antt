@@ -1,0 +1,2 @@
+pub mod CheckOpens
+pub mod Rest

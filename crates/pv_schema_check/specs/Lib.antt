@@ -1,0 +1,4 @@
+pub mod Find
+pub mod ObjectTypes
+pub mod Checking
+pub mod Answers

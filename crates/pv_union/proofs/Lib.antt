@@ -1,0 +1,5 @@
+mod CompactUtf8
+mod Joins
+mod Noting
+mod Openings
+mod Winning

@@ -1,0 +1,10 @@
+pub mod Rules
+pub mod Fields
+pub mod Wrapping
+pub mod Context
+pub mod Unions
+pub mod Choices
+pub mod Functions
+pub mod Run
+pub mod Walks
+pub mod Nests

@@ -1,0 +1,6 @@
+use Rattle.std.proofs.Common.{refl}
+use Rattle.pv_walk.proofs.Walking.{stepped}
+use Rattle.pv_walk_choices.proofs.choices.Choices.labelled.Goals as goal
+
+pub returns : goal.returns
+returns g c = stepped _ _ _ _ _ _ _ _ c.len-len.ensures c.in_ok-push.ensures.ok refl c.in_ok-found.ensures c.cut.ensures refl

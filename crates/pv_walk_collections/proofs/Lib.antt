@@ -1,0 +1,4 @@
+pub mod Parts
+pub mod Takers
+pub mod Turns
+pub mod ScalarItems

@@ -1,0 +1,10 @@
+use Rattle.std.proofs.Common.{refl, ap, ◌∷◌, ◌++◌, [], ◌∙◌}
+use Rattle.pv_tree.specs.declared.Step.TheVariants.{Name}
+use Rattle.pv_walk.proofs.Walking.{stepped}
+use Rattle.pv_walk_collections.proofs.collections.Collections.key.Goals as goal
+
+pub returns : goal.returns
+returns g c =
+    stepped _ _ _ _ _ _ _ _ c.len-len.ensures
+    (c.in_ok-push.ensures.ok ∙ ap (λ t. c.args.out.now.path ++ Name t ∷ []) (c.in_ok-share.ensures ∙ c.requires.mark))
+    refl c.in_ok-found.ensures c.cut.ensures refl

@@ -1,0 +1,2 @@
+pub mod FieldTurns
+pub mod Around

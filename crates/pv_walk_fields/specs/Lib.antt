@@ -1,0 +1,2 @@
+pub mod GoingFields
+pub mod Objects
