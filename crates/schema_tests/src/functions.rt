@@ -146,7 +146,7 @@ const OWN: &str =
     r#"{"type":"function-before","function":{"type":"no-info","function":"give"},"schema":{"type":"list","items_schema":{"type":"int"}}} "x" exact [7]
 {"type":"function-after","function":{"type":"no-info","function":"say"},"schema":{"type":"int"}} "7" lax true
 {"type":"function-plain","function":{"type":"no-info","function":"refuse"}} [1] [{"type":"assertion_error","loc":[],"msg":"Assertion failed, never","input":[1],"ctx":{"error":"never"}}]
-{"type":"function-wrap","function":{"type":"no-info","function":"thrice"},"schema":{"type":"any"}} 7 exact [[7]]
+{"type":"function-wrap","function":{"type":"no-info","function":"thrice"},"schema":{"type":"any"}} 7 lax [[7]]
 {"type":"function-wrap","function":{"type":"no-info","function":"refuse_good"},"schema":{"type":"int"}} 7 [{"type":"value_error","loc":[],"msg":"Value error, too good","input":7,"ctx":{"error":"too good"}}]
 {"type":"function-wrap","function":{"type":"no-info","function":"refuse_good"},"schema":{"type":"int"}} "x" [{"type":"int_parsing","loc":[],"msg":"Input should be a valid integer, unable to parse string as an integer","input":"x"}]"#;
 
