@@ -1,39 +1,24 @@
-use crate::fixtures::no_functions;
+use crate::fixtures::{no_functions, text, tree};
 use pv_engine::validate;
 use pv_fault::Outcome;
-use pv_node::{Body, MAX_NODES, Node, Schema, count_nodes};
 use pv_plan::{Plan, build};
-use pv_rules::{Collection, GatherRule, ScalarRule};
+use pv_schema::read_schema;
 use pv_tree::Tree;
-use sqlite_items::Boxed;
 use std::alloc::Global;
 use std::process::Abort;
 
-const LIST: GatherRule = GatherRule {
-    kind: Collection::List,
-    positions: 0,
-    variadic_item_index: None,
-    min_length: None,
-    max_length: None,
-};
-
-fn node(body: Body) -> Node {
-    Node {
-        own_ref: None,
-        strict: None,
-        body,
-    }
-}
-
-/// Lists in lists around anything.
-fn nested_lists(rt: &impl Abort, alloc: Global, levels: u64) -> Node {
-    let mut inner = node(Body::Scalar(ScalarRule::Any));
+/// The schema of lists in lists around anything, as a tree.
+fn nested_lists(rt: &impl Abort, alloc: Global, levels: u64) -> Tree {
+    let mut inner = tree(rt, alloc, br#"{"type":"any"}"#);
     for _ in 0..levels {
-        let items_schema = Boxed::new(alloc, inner).expect(rt, "memory");
-        inner = node(Body::Sequence {
-            rule: LIST,
-            items_schema: Some(items_schema),
-        });
+        let mut members = Vec::new(alloc);
+        members
+            .push((text(rt, alloc, "type"), Tree::Str(text(rt, alloc, "list"))))
+            .expect(rt, "memory");
+        members
+            .push((text(rt, alloc, "items_schema"), inner))
+            .expect(rt, "memory");
+        inner = Tree::object(alloc, members).expect(rt, "memory");
     }
     inner
 }
@@ -49,10 +34,10 @@ fn nested_arrays(rt: &impl Abort, alloc: Global, levels: u64) -> Tree {
     tree
 }
 
-fn plan_of(rt: &impl Abort, alloc: Global, root: Node) -> Plan {
-    let count = count_nodes(&root).expect(rt, "memory");
-    assert!(rt; count <= MAX_NODES);
-    let schema = Schema::new(alloc, root).expect(rt, "memory");
+fn plan_of(rt: &impl Abort, alloc: Global, written: &Tree) -> Plan {
+    let Ok(schema) = read_schema(alloc, written) else {
+        panic!(rt; "a schema");
+    };
     let Ok(plan) = build(alloc, &schema, &no_functions(alloc)) else {
         panic!(rt; "a plan");
     };
@@ -72,7 +57,7 @@ fn a_thousand_nodes_are_entered_below_one_another(rt: HostRuntime) {
     let alloc = rt.alloc();
     let registry = no_functions(alloc);
     for (levels, steps) in [(999u64, None), (1000, Some(1000usize))] {
-        let plan = plan_of(&rt, alloc, nested_lists(&rt, alloc, levels));
+        let plan = plan_of(&rt, alloc, &nested_lists(&rt, alloc, levels));
         let tree = nested_arrays(&rt, alloc, levels);
         let outcome = validate(alloc, &plan, &registry, None, &tree).expect(&rt, "memory");
         assert_eq!(rt; steps_to_error(&outcome), steps, "{levels}");

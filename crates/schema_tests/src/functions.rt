@@ -1,10 +1,6 @@
 //! Functions of the tests' own, in boxes.
 
-ghost use Rattle.std.specs.Prelude.{codes, IfOk, ◌≡◌};
-ghost use Rattle.pv_func.specs.declared.Made.TheVariants as makes;
-ghost use Rattle.pv_func.specs.declared.Raise.TheVariants as raises;
-ghost use Rattle.pv_func.specs.declared.Raw.TheVariants as gives;
-ghost use Rattle.pv_tree.specs.declared.Value.TheVariants as values;
+ghost use Rattle.std.specs.Prelude.{IfOk, ◌≡◌};
 ghost use Rattle.schema_tests.specs.Own as own;
 
 use crate::fixtures::{cut, schema, shown, text, tree};
@@ -13,6 +9,7 @@ use pv_fault::Outcome;
 use pv_func::{
     AfterFn, Answer, BeforeFn, First, Made, PlainFn, Raise, Raw, Registry, Turn, WrapFn,
 };
+use pv_notation::{trees_have_numbers, values_are_sound};
 use pv_plan::build;
 use pv_text::{Memory, Text};
 use pv_tree::{Tree, Value};
@@ -26,10 +23,10 @@ struct GiveTree {
 }
 
 impl BeforeFn for GiveTree {
-    ghost before = { λ f t. gives.Give f.tree };
+    ghost before = { λ f t. own.given f.tree };
 
-    #[tactic(auto, using(pv_notation::proofs::TreeNumbers::tree_numbers))]
     fn call(&self, alloc: Global, _input: &Tree) -> Result<Raw, Memory> {
+        trees_have_numbers(&self.tree);
         Ok(Raw::Give(self.tree.share(alloc)?))
     }
 }
@@ -41,10 +38,12 @@ struct SayFlag {
 }
 
 impl AfterFn for SayFlag {
-    ghost after = { λ f v. makes.Give (values.Bool f.flag) };
+    ghost after = { λ f v. own.said f.flag };
 
     fn call(&self, _alloc: Global, _value: &Value) -> Result<Made, Memory> {
-        Ok(Made::Give(Value::Bool(self.flag)))
+        let value = Value::Bool(self.flag);
+        values_are_sound(&value);
+        Ok(Made::Give(value))
     }
 }
 
@@ -53,7 +52,7 @@ impl AfterFn for SayFlag {
 struct RefuseAll;
 
 impl PlainFn for RefuseAll {
-    ghost plain = { λ f t. makes.Raise (raises.Assertion (codes "never")) };
+    ghost plain = { λ f t. own.never };
 
     fn call(&self, alloc: Global, _input: &Tree) -> Result<Made, Memory> {
         Ok(Made::Raise(Raise::Assertion(Text::from_str(alloc, "never")?)))
@@ -88,7 +87,6 @@ impl WrapFn for AskThrice {
         })
     }
 
-    #[tactic(auto, using(pv_notation::proofs::TreeNumbers::tree_numbers))]
     fn next(
         &self,
         alloc: Global,
@@ -99,9 +97,11 @@ impl WrapFn for AskThrice {
         if left == 0 {
             return Ok(Turn::Pass);
         }
+        let state = array_of(alloc, state)?;
+        trees_have_numbers(&state);
         Ok(Turn::Ask {
-            state: array_of(alloc, state)?,
-            input: array_of(alloc, state)?,
+            input: state.share(alloc)?,
+            state,
         })
     }
 }
