@@ -20,7 +20,7 @@ use Rattle.pv_cli.specs.declared.status.Status.TheVariants as status
 abbrev Files : Type 0
 Files = List (List ℕ × List ℕ)
 
-sooner : (before mid now : ℕ) → before ≤ mid → Rose mid now → Rose before now
+pub sooner : (before mid now : ℕ) → before ≤ mid → Rose mid now → Rose before now
 sooner before mid now later r = omega arith
 
 later_on : (before mid now : ℕ) → Rose before mid → mid ≤ now → Rose before now
@@ -33,7 +33,7 @@ replies_sooner (Some files) f before mid now a l (inl e) = inl e
 replies_sooner (Some files) f before mid now a l (inr p) = inr (p.0, sooner before mid now l p.1)
 
 -- the answer to a file, where this is its content
-of_loaded : (files : Files) (name bytes : List ℕ) (limit : ℕ) (next : List ℕ → Reads) → file files name ≡ Some bytes → length bytes ≤ limit
+pub of_loaded : (files : Files) (name bytes : List ℕ) (limit : ℕ) (next : List ℕ → Reads) → file files name ≡ Some bytes → length bytes ≤ limit
     → answer_of files (a_file name limit next) ≡ answer_of files (next bytes)
 of_loaded files name bytes limit next is small = rw (is, le-leb (length bytes) limit small) refl
 
@@ -78,7 +78,7 @@ overfull (Some files) name limit next before now over = by (file files name) ref
     by (Some bytes) e f = inl (sym (of_overfull files name bytes limit next e f))
 
 -- what loading answers, which failed for this reason
-abbrev failed_by : LoadFault → Result (List ℕ) LoadFault
+abbrev pub failed_by : LoadFault → Result (List ℕ) LoadFault
 failed_by f = Err f
 
 -- a file was not loaded, for this reason

@@ -34,6 +34,10 @@ file_limit = 4194304
 abbrev pub line_limit : ℕ
 line_limit = 1048576
 
+-- how many bytes a file may have whose lines are answered one by one
+abbrev pub lines_limit : ℕ
+lines_limit = 1099511627776
+
 -- how many bytes are given at least before more are too many
 abbrev pub limit_in : Command → ℕ
 limit_in (Validate strict schema document) = file_limit

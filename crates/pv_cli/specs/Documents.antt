@@ -1,5 +1,5 @@
 -- What is answered to a document under a schema, by the functions that there are.
-use Rattle.std.specs.Prelude.{Bool, ℕ, List, [], ◌∷◌, codes, Option}
+use Rattle.std.specs.Prelude.{Bool, true, false, ℕ, List, [], ◌∷◌, codes, Option}
 use Rattle.pv_tree.specs.declared.Tree.{Tree}
 use Rattle.pv_tree.specs.declared.Tree.TheVariants as tree
 use Rattle.pv_fault.specs.Errors.{errors_text}
@@ -38,21 +38,39 @@ one_error kind t = errors_text (record { kind = kind; loc = []; input = t } ∷ 
 abbrev pub json_errors : List ℕ → List ℕ
 json_errors text = one_error (kind.JsonInvalid text) tree.Null
 
+-- what is printed of a document, and whether it is valid
+pub record Verdict : Type 0 where
+  pub text : List ℕ
+  pub valid : Bool
+
+-- a document of which one error is printed: it is no JSON
+abbrev pub no_json : List ℕ → Verdict
+no_json text = record { text = json_errors text; valid = false }
+
 -- the notation of a value, or the list of errors
-abbrev pub of_outcome : Outcome → Answer
-of_outcome (Good v grade fields) = printed (notation v) status.Valid
-of_outcome (Bad errors) = printed (errors_text errors) status.Invalid
+abbrev pub of_outcome : Outcome → Verdict
+of_outcome (Good v grade fields) = record { text = notation v; valid = true }
+of_outcome (Bad errors) = record { text = errors_text errors; valid = false }
 
 -- of what the input is as a document
-abbrev pub of_reading : Named Meaning → Option Bool → Node → Document → Answer
+abbrev pub of_reading : Named Meaning → Option Bool → Node → Document → Verdict
 of_reading functions strict schema (whole t) =
     of_outcome
     (meaning (record { strict = strict; functions = functions }) full_depth schema t)
-of_reading functions strict schema (bad at) =
-    printed (json_errors (bad_text at)) status.Invalid
-of_reading functions strict schema ends_early = printed (json_errors end_text) status.Invalid
+of_reading functions strict schema (bad at) = no_json (bad_text at)
+of_reading functions strict schema ends_early = no_json end_text
 
 -- of the bytes of a document
-unfoldable pub of_document : Named Meaning → Option Bool → Node → List ℕ → Answer
+unfoldable pub verdict : Named Meaning → Option Bool → Node → List ℕ → Verdict
+verdict functions strict schema bytes = of_reading functions strict schema (reading 128 bytes)
+
+-- the status of a valid document, or of one that is not
+abbrev pub validity : Bool → Status
+validity true = status.Valid
+validity false = status.Invalid
+
+-- the answer to a document
+abbrev pub of_document : Named Meaning → Option Bool → Node → List ℕ → Answer
 of_document functions strict schema bytes =
-    of_reading functions strict schema (reading 128 bytes)
+    printed (verdict functions strict schema bytes).text
+    (validity (verdict functions strict schema bytes).valid)

@@ -7,4 +7,5 @@ pub mod Documents
 pub mod Checks
 pub mod Answering
 pub mod Running
+pub mod Passing
 pub mod Steps

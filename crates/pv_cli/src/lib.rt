@@ -3,7 +3,10 @@
 
 mod answer;
 mod checking;
+mod commands;
 mod document;
+mod ending;
+mod lined;
 mod lines;
 mod running;
 mod schema;

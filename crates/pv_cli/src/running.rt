@@ -1,34 +1,21 @@
-ghost use Rattle.std.specs.Prelude.{◌≡◌, ◌+◌, ◌^◌, ◌-◌, ◌<◌, ◌≤◌, ◌⊎◌, ℕ, List, true, [], length, IsSome, IsOk, OnOk, OnErr};
-ghost use Rattle.pv_edge.specs.Rising.{Rose};
+ghost use Rattle.std.specs.Prelude.{◌≡◌, ◌+◌, ◌^◌, ◌-◌, ◌<◌, ◌≤◌, ◌⊎◌, ℕ, List, true, [], length, IsSome};
 ghost use Rattle.std.specs.Io.KnownBytes.{Appends};
 ghost use Rattle.pv_edge.specs.Sending.{SentInPart};
 ghost use Rattle.pv_command.specs.declared.Asked.TheVariants.{NotBuilt};
 ghost use Rattle.pv_command.specs.Command.{asked};
-ghost use Rattle.pv_cli.specs.Answering.{answer};
-ghost use Rattle.pv_cli.specs.Asking.{files_of, limit_of, place_of};
+ghost use Rattle.pv_cli.specs.Answering.{answer, reads_for};
+ghost use Rattle.pv_cli.specs.Asking.{asks_lines, files_of, limit_of, place_of};
 ghost use Rattle.pv_cli.specs.Lines.{IsLineOf};
+ghost use Rattle.pv_cli.specs.Passing.{Passes};
 ghost use Rattle.pv_cli.specs.Running.{IsTold, Puts, StopsAt, WhereTold, is_decided, is_printed, is_silent, read_size};
 
+use crate::commands::answer_words;
+use crate::ending::NoAnswer;
 use crate::status::Status;
-use crate::working::work;
 use pv_command::Words;
-use pv_edge::{Failed, Shelf, Sink, put_all};
+use pv_edge::{Shelf, Sink, put_all};
 use pv_func::Objects;
 use std::alloc::Global;
-
-/// Puts all of the bytes, and nothing where there are none.
-fn print<O: Sink>(out: &mut O, bytes: &[u8]) -> Result<(), Failed>
-    ensures all { OnOk result (Appends (O.took out.old) (O.took out.new) bytes.now) }
-    ensures part { OnErr result (SentInPart (O.took out.old) (O.took out.new) bytes.now) }
-    ensures cause { OnErr result (Rose (O.faults out.old) (O.faults out.new)) }
-    ensures later { O.faults out.old ≤ O.faults out.new }
-    ensures nothing { bytes.now ≡ [] → IsOk result }
-{
-    if bytes.is_empty() {
-        return Ok(());
-    }
-    put_all(out, bytes)
-}
 
 /// Runs the command that the words name. The files come from the shelf, and the functions that a
 /// schema names from the registry. The answer goes to `out`, and a line that says why there is none
@@ -92,6 +79,13 @@ pub fn run<F: Shelf, O: Sink, E: Sink, R: Objects>(
         SentInPart (O.took out.old) (O.took out.new)
         (answer words.now (R.functions registry.now) files).out) }
 
+    // In `lines` each answer is on standard output before the next line is looked for.
+    ensures one_pass { asks_lines (asked words.now) ≡ true →
+        WhereTold (F.held shelf.old) (λ files.
+        Passes files (reads_for (R.functions registry.now) (asked words.now))
+        (files_of (asked words.now)) (F.given shelf.old) (F.given shelf.new)
+        (O.took out.old) (O.took out.new) result) }
+
     // Where no count of faults rises, it is the status that the words and the files decide, or want
     // of memory.
     ensures complete { F.faults shelf.new ≡ F.faults shelf.old →
@@ -112,14 +106,18 @@ pub fn run<F: Shelf, O: Sink, E: Sink, R: Objects>(
     ensures later { F.faults shelf.old ≤ F.faults shelf.new }
     ensures rises { F.given shelf.old ≤ F.given shelf.new }
 {
-    let Ok(answer) = work(alloc, words, shelf, registry) else {
-        let _ = put_all(err, b"out of memory\n");
-        return Status::Memory;
-    };
-    let Ok(()) = print(out, answer.out.as_slice()) else {
-        let _ = put_all(err, b"write failed\n");
-        return Status::WriteFault;
-    };
-    let _ = put_all(err, answer.line.as_slice());
-    answer.status
+    match answer_words(alloc, words, shelf, out, registry) {
+        Ok(ending) => {
+            let _ = put_all(err, ending.line.as_slice());
+            ending.status
+        }
+        Err(NoAnswer::WriteFailed) => {
+            let _ = put_all(err, b"write failed\n");
+            Status::WriteFault
+        }
+        Err(NoAnswer::Memory) => {
+            let _ = put_all(err, b"out of memory\n");
+            Status::Memory
+        }
+    }
 }

@@ -1,16 +1,14 @@
-//! From words and files to the whole answer, before anything is written.
+//! From files to the whole answer, before anything is written.
 
-ghost use Rattle.std.specs.Prelude.{◌≡◌, ◌+◌, ◌^◌, ◌<◌, ◌≤◌, ◌⊎◌, ◌↔◌, ◌≢◌, ℕ, List, [], ◌∷◌, length, true, IsSome, IfOk};
+ghost use Rattle.std.specs.Prelude.{◌≡◌, ◌+◌, ◌^◌, ◌≤◌, ◌≢◌, ℕ, List, [], ◌∷◌, true, IfOk};
 ghost use Rattle.pv_command.specs.declared.Asked.{Asked};
-ghost use Rattle.pv_command.specs.declared.Asked.TheVariants.{NotBuilt, Run};
-ghost use Rattle.pv_command.specs.Command.{IsServed, asked};
 ghost use Rattle.pv_cli.specs.Answering as spec;
-ghost use Rattle.pv_cli.specs.Answering.{answer, answer_of};
+ghost use Rattle.pv_cli.specs.Answering.{answer_of};
 ghost use Rattle.pv_cli.specs.Checks.{checked};
-ghost use Rattle.pv_cli.specs.Asking.{file_limit, files_in, files_of, limit_of, place_of};
+ghost use Rattle.pv_cli.specs.Asking.{file_limit, files_of};
 ghost use Rattle.pv_cli.specs.Lines.{IsLineOf, IsOutOf};
 ghost use Rattle.pv_cli.specs.Running.{Replies, StopsAt, WhereTold, is_printed, read_size, size_of};
-ghost use Rattle.pv_cli.specs.Steps.{IsRefusal};
+ghost use Rattle.pv_cli.specs.Steps.{IsRefusal, Opens};
 
 use crate::answer::Answer;
 use crate::checking::answer_check;
@@ -18,7 +16,6 @@ use crate::document::answer_document;
 use crate::lines;
 use crate::schema::{SchemaStep, read_schema_file};
 use crate::status::Status;
-use pv_command::{Asked, Command, Words, command};
 use pv_edge::{LoadFault, Shelf, load};
 use pv_func::Objects;
 use pv_plan::Plan;
@@ -42,6 +39,30 @@ fn refuse_file(alloc: Global, name: &Text, fault: LoadFault) -> Result<Answer, M
             Ok(Answer::refused(alloc, line, Status::TooLarge))
         }
         LoadFault::Memory => Err(Memory),
+    }
+}
+
+/// The plan of a schema file, or the answer to it.
+pub(crate) fn open_schema<F: Shelf, R: Objects>(
+    alloc: Global,
+    shelf: &mut F,
+    name: &Text,
+    registry: &R,
+) -> Result<SchemaStep, Memory>
+    requires { F.given shelf.old ≤ 2 ^ 62 }
+    ensures held { F.held shelf.new ≡ F.held shelf.old }
+    ensures later { F.faults shelf.old ≤ F.faults shelf.new }
+    ensures rises { F.given shelf.old ≤ F.given shelf.new }
+    ensures at_most { F.given shelf.new ≤ F.given shelf.old + file_limit + 1 }
+    ensures in_file { WhereTold (F.held shelf.old) (λ files.
+        F.given shelf.new ≤ F.given shelf.old + size_of files name.now) }
+    ensures opens { IfOk result (λ s.
+        Opens s (F.held shelf.old) (R.functions registry.now) name.now (F.faults shelf.old)
+        (F.faults shelf.new) (F.given shelf.old) (F.given shelf.new)) }
+{
+    match load(alloc, shelf, name.as_str(), FILE_LIMIT) {
+        Ok(bytes) => read_schema_file(alloc, bytes.as_slice(), registry),
+        Err(fault) => Ok(SchemaStep::Answered(refuse_file(alloc, name, fault)?)),
     }
 }
 
@@ -85,7 +106,7 @@ fn answer_file<F: Shelf, R: Objects>(
 }
 
 /// The answer to a schema file and a document file.
-fn answer_files<F: Shelf, R: Objects>(
+pub(crate) fn answer_files<F: Shelf, R: Objects>(
     alloc: Global,
     shelf: &mut F,
     strict: Option<bool>,
@@ -133,7 +154,7 @@ fn answer_files<F: Shelf, R: Objects>(
 }
 
 /// The answer to a schema file that is checked.
-fn check_file<F: Shelf, R: Objects>(
+pub(crate) fn check_file<F: Shelf, R: Objects>(
     alloc: Global,
     shelf: &mut F,
     name: &Text,
@@ -171,140 +192,4 @@ fn check_file<F: Shelf, R: Objects>(
         SchemaStep::Served(plan) => answer_check(alloc, &plan),
         SchemaStep::Answered(answer) => Ok(answer),
     }
-}
-
-/// The answer to a command.
-fn answer_command<F: Shelf, R: Objects>(
-    alloc: Global,
-    shelf: &mut F,
-    command: &Command,
-    registry: &R,
-) -> Result<Answer, Memory>
-    requires served { IsServed (Run command.now) }
-    requires given { F.given shelf.old ≤ 2 ^ 62 }
-    ensures held { F.held shelf.new ≡ F.held shelf.old }
-    ensures later { F.faults shelf.old ≤ F.faults shelf.new }
-    ensures rises { F.given shelf.old ≤ F.given shelf.new }
-    ensures unread { files_in command.now ≡ [] → F.given shelf.new ≡ F.given shelf.old }
-
-    ensures reply { IfOk result (Replies (F.held shelf.old)
-        (λ files. answer_of files (spec.reads_of (R.functions registry.now) command.now))
-        (F.faults shelf.old) (F.faults shelf.new)) }
-    ensures line { IfOk result (λ a. IsLineOf (Run command.now) a.status a.line) }
-    ensures out { IfOk result (λ a. IsOutOf a.status a.out) }
-    ensures words { IfOk result (λ a. a.status ≢ Status.WordsRefused) }
-    ensures files { 0 < length (files_in command.now) }
-    ensures large { IfOk result (λ a.
-        a.status ≡ Status.TooLarge →
-        F.given shelf.old + limit_of (Run command.now) + 1 ≤ F.given shelf.new) }
-    ensures stops { IfOk result (λ a.
-        a.status ≡ Status.ReadFault →
-        WhereTold (F.held shelf.old) (λ files.
-        StopsAt files (files_in command.now) (F.given shelf.old) (F.given shelf.new) a.line)) }
-    ensures whole { IfOk result (λ a.
-        is_printed a.status ≡ true →
-        WhereTold (F.held shelf.old) (λ files.
-        F.given shelf.new ≡ F.given shelf.old + read_size files (files_in command.now))) }
-{
-    match command {
-        Command::Validate {
-            strict,
-            schema,
-            document,
-        } => answer_files(alloc, shelf, *strict, schema, document, registry),
-        Command::Dump { .. } => Answer::not_built(alloc),
-        Command::Lines { .. } => Answer::not_built(alloc),
-        Command::Check { schema } => check_file(alloc, shelf, schema, registry),
-        Command::JsonSchema { .. } => Answer::not_built(alloc),
-        Command::Workload { .. } => Answer::not_built(alloc),
-    }
-}
-
-/// The answer to what the words ask for, which is made before anything of it is written.
-fn answer_asked<F: Shelf, R: Objects>(
-    alloc: Global,
-    shelf: &mut F,
-    asked: &Asked,
-    registry: &R,
-) -> Result<Answer, Memory>
-    requires served { IsServed asked.now }
-    requires given { F.given shelf.old ≤ 2 ^ 62 }
-    ensures held { F.held shelf.new ≡ F.held shelf.old }
-    ensures later { F.faults shelf.old ≤ F.faults shelf.new }
-    ensures rises { F.given shelf.old ≤ F.given shelf.new }
-    ensures unread { files_of asked.now ≡ [] → F.given shelf.new ≡ F.given shelf.old }
-
-    ensures reply { IfOk result (Replies (F.held shelf.old)
-        (λ files. answer_of files (spec.reads_for (R.functions registry.now) asked.now))
-        (F.faults shelf.old) (F.faults shelf.new)) }
-    ensures line { IfOk result (λ a. IsLineOf asked.now a.status a.line) }
-    ensures out { IfOk result (λ a. IsOutOf a.status a.out) }
-    ensures large { IfOk result (λ a.
-        a.status ≡ Status.TooLarge →
-        F.given shelf.old + limit_of asked.now + 1 ≤ F.given shelf.new) }
-    ensures stops { IfOk result (λ a.
-        a.status ≡ Status.ReadFault →
-        WhereTold (F.held shelf.old) (λ files.
-        StopsAt files (files_of asked.now) (F.given shelf.old) (F.given shelf.new) a.line)) }
-    ensures whole { IfOk result (λ a.
-        is_printed a.status ≡ true →
-        WhereTold (F.held shelf.old) (λ files.
-        F.given shelf.new ≡ F.given shelf.old + read_size files (files_of asked.now))) }
-    ensures refused { IfOk result (λ a.
-        (a.status ≡ Status.WordsRefused) ↔ IsSome (place_of asked.now)) }
-    ensures unbuilt { IfOk result (λ a. asked.now ≡ NotBuilt → a.status ≡ Status.NotYet) }
-    ensures not_yet { IfOk result (λ a.
-        a.status ≡ Status.NotYet → (asked.now ≡ NotBuilt) ⊎ (0 < length (files_of asked.now))) }
-{
-    match asked {
-        Asked::Run(command) => answer_command(alloc, shelf, command, registry),
-        Asked::Refused { at } => {
-            let line = lines::words_refused(alloc, *at)?;
-            Ok(Answer::refused(alloc, line, Status::WordsRefused))
-        }
-        Asked::NotBuilt => Answer::not_built(alloc),
-    }
-}
-
-/// The whole answer to words.
-#[tactic(auto, unfolding(crate::specs::Answering::answer))]
-pub(crate) fn work<F: Shelf, R: Objects>(
-    alloc: Global,
-    words: &Words,
-    shelf: &mut F,
-    registry: &R,
-) -> Result<Answer, Memory>
-    requires { F.given shelf.old ≤ 2 ^ 62 }
-    ensures held { F.held shelf.new ≡ F.held shelf.old }
-    ensures later { F.faults shelf.old ≤ F.faults shelf.new }
-    ensures rises { F.given shelf.old ≤ F.given shelf.new }
-    ensures unread { files_of (asked words.now) ≡ [] → F.given shelf.new ≡ F.given shelf.old }
-
-    ensures reply { IfOk result (Replies (F.held shelf.old)
-        (answer words.now (R.functions registry.now))
-        (F.faults shelf.old) (F.faults shelf.new)) }
-    ensures line { IfOk result (λ a. IsLineOf (asked words.now) a.status a.line) }
-    ensures out { IfOk result (λ a. IsOutOf a.status a.out) }
-    ensures large { IfOk result (λ a.
-        a.status ≡ Status.TooLarge →
-        F.given shelf.old + limit_of (asked words.now) + 1 ≤ F.given shelf.new) }
-    ensures stops { IfOk result (λ a.
-        a.status ≡ Status.ReadFault →
-        WhereTold (F.held shelf.old) (λ files.
-        StopsAt files (files_of (asked words.now)) (F.given shelf.old) (F.given shelf.new)
-        a.line)) }
-    ensures whole { IfOk result (λ a.
-        is_printed a.status ≡ true →
-        WhereTold (F.held shelf.old) (λ files.
-        F.given shelf.new ≡ F.given shelf.old + read_size files (files_of (asked words.now)))) }
-    ensures refused { IfOk result (λ a.
-        (a.status ≡ Status.WordsRefused) ↔ IsSome (place_of (asked words.now))) }
-    ensures unbuilt { IfOk result (λ a.
-        asked words.now ≡ NotBuilt → a.status ≡ Status.NotYet) }
-    ensures not_yet { IfOk result (λ a.
-        a.status ≡ Status.NotYet →
-        (asked words.now ≡ NotBuilt) ⊎ (0 < length (files_of (asked words.now)))) }
-{
-    let asked = command(words)?;
-    answer_asked(alloc, shelf, &asked, registry)
 }

@@ -56,7 +56,7 @@ abbrev pub commands : List CommandRow
 commands =
     built (codes "validate") validate_form ∷
     unbuilt (codes "dump") dump_form ∷
-    unbuilt (codes "lines") lines_form ∷
+    built (codes "lines") lines_form ∷
     built (codes "check") check_form ∷
     unbuilt (codes "jsonschema") (form [] (λ o. one_schema JsonSchema)) ∷
     unbuilt (codes "workload") (form [] (λ o. seed_and_count Workload)) ∷ []
@@ -164,7 +164,7 @@ asked words = asked_by (begins_unbuilt words) (command words)
 abbrev pub IsServed : Asked → Type 0
 IsServed (Run (Validate strict schema document)) = Unit {0}
 IsServed (Run (Dump options schema document)) = ⊥
-IsServed (Run (Lines strict schema document)) = ⊥
+IsServed (Run (Lines strict schema document)) = Unit {0}
 IsServed (Run (Check schema)) = Unit {0}
 IsServed (Run (JsonSchema schema)) = ⊥
 IsServed (Run (Workload seed count)) = ⊥

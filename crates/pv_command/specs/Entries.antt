@@ -20,7 +20,7 @@ use Rattle.pv_command.specs.declared.table.OptionSet.TheVariants.{Empty, Strictn
 use Rattle.pv_command.specs.declared.table.OperandList.{OperandList}
 use Rattle.pv_command.specs.declared.table.OperandList.TheVariants.{OneSchema, SchemaAndDocument}
 use Rattle.pv_command.specs.declared.table.Made.{Made}
-use Rattle.pv_command.specs.declared.table.Made.TheVariants.{Validate, Check}
+use Rattle.pv_command.specs.declared.table.Made.TheVariants.{Validate, Lines, Check}
 use Rattle.pv_command.specs.declared.table.Takes.{Takes}
 use Rattle.pv_command.specs.declared.table.CommandEntry.{CommandEntry}
 
@@ -57,6 +57,7 @@ word_at n words = get_or words n []
 -- the command that is made of the options and the operands
 abbrev pub made_of : Made → Options → List (List ℕ) → Command
 made_of Validate o words = command.Validate o.strict (word_at 0 words) (word_at 1 words)
+made_of Lines o words = command.Lines o.strict (word_at 0 words) (word_at 1 words)
 made_of Check o words = command.Check (word_at 0 words)
 
 -- operands of these kinds behind others, and the command that is made of all of them

@@ -138,6 +138,15 @@ fn make(alloc: Global, made: Made, options: &Options, operands: &[Text]) -> Resu
                 document,
             })
         }
+        Made::Lines => {
+            let schema = word_at(alloc, operands, 0)?;
+            let document = word_at(alloc, operands, 1)?;
+            Ok(Command::Lines {
+                strict: options.strict,
+                schema,
+                document,
+            })
+        }
         Made::Check => Ok(Command::Check {
             schema: word_at(alloc, operands, 0)?,
         }),

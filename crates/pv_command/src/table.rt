@@ -79,6 +79,7 @@ impl OperandList {
 #[derive(Clone, Copy)]
 pub(crate) enum Made {
     Validate,
+    Lines,
     Check,
 }
 
@@ -127,7 +128,12 @@ const COMMANDS: [CommandEntry; 6] = [
         Made::Validate
     ),
     unbuilt!("dump"),
-    unbuilt!("lines"),
+    built!(
+        "lines",
+        OptionSet::Strictness,
+        OperandList::SchemaAndDocument,
+        Made::Lines
+    ),
     built!(
         "check",
         OptionSet::Empty,

@@ -1,5 +1,5 @@
 -- The lines of a file, one after another.
-use Rattle.std.proofs.Common.{◌≡◌, ℕ, suc, ◌+◌, ◌-◌, ◌<◌, ◌≤◌, ◌⊎◌, inl, inr, cond, false, List, [], ◌∷◌, ◌++◌, length, take, Option, Some, None, refl, sym, ap, ◌∙◌, arith, length-append}
+use Rattle.std.proofs.Common.{◌≡◌, ℕ, suc, ◌+◌, ◌-◌, ◌<◌, ◌≤◌, ◌⊎◌, inl, inr, cond, false, List, [], ◌∷◌, ◌++◌, length, take, Option, Some, None, refl, sym, ap, ◌∙◌, append_assoc, arith, length-append}
 use Rattle.std.specs.Prelude.{nat_lt}
 use Rattle.std.proofs.lemmas.Bool.{cases_lt, lt-ltb, ltb-true, false_from_ne_true}
 use Rattle.std.proofs.lemmas.List.Elements.{All-from_recursion}
@@ -90,6 +90,27 @@ first_line line_limit file_limit place bytes line rest e =
     ∙ lines_further line rest (fault_place line_limit (room - (length line + 1)) rest) e.one
     ∙ ap (λ r. line ∷ lines_of line_limit r rest) less)
 
+-- and a fault comes as far behind it as one comes in what follows it
+pub first_fault : (line_limit file_limit place : ℕ) (bytes line rest : List ℕ) → IsEnded line_limit file_limit place bytes line rest
+    → fault_place line_limit (file_limit - place) bytes ≡ further (length line + 1) (fault_place line_limit (file_limit - (place + length line + 1)) rest)
+first_fault line_limit file_limit place bytes line rest e =
+    let room = file_limit - place in
+    let less : room - (length line + 1) ≡ file_limit - (place + length line + 1) = omega (arith, e.within) in
+    rw e.cut (fault_further line_limit room line rest e.one e.short (omega (arith, e.within)) ∙ ap (λ r. further (length line + 1) (fault_place line_limit r rest)) less)
+
+-- it is the first of those that end
+pub first_ended : (line_limit file_limit place : ℕ) (bytes line rest : List ℕ) → IsEnded line_limit file_limit place bytes line rest → ended_lines bytes ≡ line ∷ ended_lines rest
+first_ended line_limit file_limit place bytes line rest e = rw e.cut (ap ended (cut_first line rest e.one) ∙ ended_first line (pieces rest) (some_piece rest))
+
+-- whatever follows
+pub ended_with_more : (line_limit file_limit place : ℕ) (bytes line rest more : List ℕ) → IsEnded line_limit file_limit place bytes line rest → IsEnded line_limit file_limit place (bytes ++ more) line (rest ++ more)
+ended_with_more line_limit file_limit place bytes line rest more e = record {
+  cut = ap (λ b. b ++ more) e.cut ∙ append_assoc line (line_feed ∷ rest) more;
+  one = e.one;
+  short = e.short;
+  within = e.within;
+}
+
 -- ---- the end of a file
 
 long_none : (limit : ℕ) (bytes : List ℕ) → length bytes ≤ limit → long_in limit (bytes ∷ []) ≡ None
@@ -111,7 +132,18 @@ last_line line_limit file_limit place bytes u some =
     ap (λ p. lines_up_to p bytes) (no_fault line_limit (file_limit - place) bytes u.one u.short (omega (arith, u.within)))
     ∙ ap filled (slice_split_none is_feed bytes u.one) ∙ filled_last bytes some
 
+-- none of it has ended, and nothing of it is at fault
+pub none_ended : (line_limit file_limit place : ℕ) (bytes : List ℕ) → IsUnended line_limit file_limit place bytes → ended_lines bytes ≡ []
+unfolding ended
+none_ended line_limit file_limit place bytes u = ap ended (slice_split_none is_feed bytes u.one)
+
+pub none_at_fault : (line_limit file_limit place : ℕ) (bytes : List ℕ) → IsUnended line_limit file_limit place bytes → fault_place line_limit (file_limit - place) bytes ≡ None
+none_at_fault line_limit file_limit place bytes u = no_fault line_limit (file_limit - place) bytes u.one u.short (omega (arith, u.within))
+
+pub nothing_at_fault : (line_limit room : ℕ) → fault_place line_limit room [] ≡ None
+nothing_at_fault line_limit room = no_fault line_limit room [] (All-from_recursion (λ b. is_feed b ≡ false) [] tt) (omega arith) (omega arith)
+
 -- and where nothing is left there is none
 pub no_line : (line_limit room : ℕ) → lines_of line_limit room [] ≡ []
 unfolding filled
-no_line line_limit room = ap (λ p. lines_up_to p []) (no_fault line_limit room [] (All-from_recursion (λ b. is_feed b ≡ false) [] tt) (omega arith) (omega arith))
+no_line line_limit room = ap (λ p. lines_up_to p []) (nothing_at_fault line_limit room)

@@ -1,5 +1,6 @@
 -- A fault stays where more bytes come.
 use Rattle.std.proofs.Common.{◌≡◌, ℕ, ◌+◌, ◌-◌, ◌<◌, ◌≤◌, ◌⊎◌, inl, inr, Bool, cond, true, false, List, [], ◌∷◌, ◌++◌, length, take, Option, Some, None, refl, sym, ap, ◌∙◌, subst, arith, length-append}
+use Rattle.std.specs.Prelude.{min}
 use Rattle.std.specs.List.{onto_first}
 use Rattle.std.proofs.lemmas.Bool.{cases_lt, lt-ltb}
 use Rattle.std.proofs.lemmas.List.{take-append-le}
@@ -71,6 +72,10 @@ size_pieces (b ∷ bytes) = size_by b bytes (is_feed b) refl (size_pieces bytes)
 long_now : (limit : ℕ) (p : List ℕ) (ps : List (List ℕ)) → limit < length p → long_in limit (p ∷ ps) ≡ Some limit
 unfolding long_in
 long_now limit p ps long = ap (λ b. cond b (Some limit) (further (length p + 1) (long_in limit ps))) (lt-ltb limit (length p) long)
+
+long_empty : (limit : ℕ) → long_in limit [] ≡ None
+unfolding long_in
+long_empty limit = refl
 
 long_nothing : (limit : ℕ) (p : List ℕ) → length p ≤ limit → long_in limit (p ∷ []) ≡ None
 unfolding long_in
@@ -169,3 +174,49 @@ still_too_large line_limit file_limit place bytes more t =
 
 pub no_line_comes : (line_limit file_limit place : ℕ) (bytes : List ℕ) → IsTooLarge line_limit file_limit place bytes → lines_of line_limit (file_limit - place) bytes ≡ []
 no_line_comes line_limit file_limit place bytes t = ap (λ p. lines_up_to p bytes) t.fault ∙ t.none
+
+-- ---- where a fault stands
+
+-- the place is there, and not before the bound
+abbrev NotBefore : ℕ → Option ℕ → Type 0
+NotBefore bound None = Unit {0}
+NotBefore bound (Some at) = bound ≤ at
+
+not_before_further : (bound k : ℕ) (p : Option ℕ) → NotBefore bound p → NotBefore bound (further k p)
+not_before_further bound k None n = tt
+not_before_further bound k (Some at) n = omega (arith, n)
+
+long_not_before : (limit : ℕ) (ps : List (List ℕ)) → NotBefore limit (long_in limit ps)
+long_not_before limit [] = subst (NotBefore limit) (sym (long_empty limit)) tt
+long_not_before limit (p ∷ ps) = by (cases_lt limit (length p)) (long_not_before limit ps)
+  where
+    by : (limit < length p) ⊎ (length p ≤ limit) → NotBefore limit (long_in limit ps) → NotBefore limit (long_in limit (p ∷ ps))
+    by (inl long) later = subst (NotBefore limit) (sym (long_now limit p ps long)) (omega arith)
+    by (inr short) later = subst (NotBefore limit) (sym (long_further limit p ps short)) (not_before_further limit (length p + 1) (long_in limit ps) later)
+
+behind_not_before : (room : ℕ) (bytes : List ℕ) → (room < length bytes) ⊎ (length bytes ≤ room) → NotBefore room (behind room bytes)
+behind_not_before room bytes (inl over) = subst (NotBefore room) (sym (ap (λ b. cond b (Some room) None) (lt-ltb room (length bytes) over))) (omega arith)
+behind_not_before room bytes (inr within) = subst (NotBefore room) (sym (ap (λ b. cond b (Some room) None) (lt_false room (length bytes) within))) tt
+
+earlier_not_before : (limit room : ℕ) (p q : Option ℕ) (at : ℕ) → earlier p q ≡ Some at → NotBefore limit p → NotBefore room q → (limit ≤ at) ⊎ (room ≤ at)
+earlier_not_before limit room None (Some b) at e m n = let same : b ≡ at = cc in inr (omega (arith, same, n))
+earlier_not_before limit room None None at e m n = absurd (cc)
+earlier_not_before limit room (Some a) None at e m n = let same : a ≡ at = cc in inl (omega (arith, same, m))
+earlier_not_before limit room (Some a) (Some b) at e m n = by (cases_lt a b)
+  where
+    by : (a < b) ⊎ (b ≤ a) → (limit ≤ at) ⊎ (room ≤ at)
+    by (inl less) = let same : min a b ≡ at = cc in inl (omega (arith, same, m, less))
+    by (inr more) = let same : min a b ≡ at = cc in inr (omega (arith, same, n, more))
+
+-- a byte stands at it, and it is not before one of the limits
+pub fault_within : (line_limit room : ℕ) (bytes : List ℕ) (at : ℕ) → fault_place line_limit room bytes ≡ Some at → (at < length bytes) × ((line_limit ≤ at) ⊎ (room ≤ at))
+fault_within line_limit room bytes at fault =
+    let here = subst (λ p. Stays p (fault_place line_limit room (bytes ++ [])) (length bytes)) fault (fault_stays line_limit room bytes []) in
+    (here.1, earlier_not_before line_limit room (long_in line_limit (pieces bytes)) (behind room bytes) at fault (long_not_before line_limit (pieces bytes)) (behind_not_before room bytes (cases_lt room (length bytes))))
+
+-- nor do more bytes change the lines before it
+pub lines_stay : (line_limit room : ℕ) (bytes more : List ℕ) (at : ℕ) → fault_place line_limit room bytes ≡ Some at
+    → (fault_place line_limit room (bytes ++ more) ≡ Some at) × (lines_of line_limit room (bytes ++ more) ≡ lines_of line_limit room bytes)
+lines_stay line_limit room bytes more at fault =
+    let here = subst (λ p. Stays p (fault_place line_limit room (bytes ++ more)) (length bytes)) fault (fault_stays line_limit room bytes more) in
+    (here.0, ap (λ p. lines_up_to p (bytes ++ more)) here.0 ∙ ap ended_lines (take-append-le at bytes more (omega (arith, here.1))) ∙ sym (ap (λ p. lines_up_to p bytes) fault))

@@ -155,8 +155,10 @@ impl Finder {
         ensures takes { Takes (F.rest shelf.old) (F.rest shelf.new) (F.given shelf.old) (F.given shelf.new)
             (λ more. (self.new ≡ record self.old { waiting = self.old.waiting ++ more; closed = self.new.closed })
             × Finds result self.new.line_limit self.new.file_limit self.new.place self.new.waiting self.new.closed) }
-        ensures at_most { F.given shelf.new ≤ F.given shelf.old + self.old.line_limit + 4096 }
+        ensures at_most { F.given shelf.new + length self.old.waiting ≤ F.given shelf.old + self.old.line_limit + 4096 }
         ensures room { length self.new.waiting ≤ self.new.line_limit + 4096 }
+        ensures closed { self.old.closed ≡ true → (self.new.closed ≡ true) × (F.given shelf.new ≡ F.given shelf.old) }
+        ensures open { IsErrOf result LineFault.Failed → self.new.closed ≡ false }
         ensures cause { IsErrOf result LineFault.Failed → Rose (F.faults shelf.old) (F.faults shelf.new) }
         ensures held { F.held shelf.new ≡ F.held shelf.old }
         ensures later { F.faults shelf.old ≤ F.faults shelf.new }

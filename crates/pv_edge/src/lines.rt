@@ -79,8 +79,10 @@ impl Lines {
         ensures over { self.old.over ≡ true → result ≡ Ok next.End }
         ensures nothing { self.old.over ≡ true → (shelf.new ≡ shelf.old) × (self.new ≡ record self.old { line = [] }) }
         ensures ends { (self.new.over ≡ false) ↔ (result ≡ Ok next.Line) }
+        ensures closed { self.old.closed ≡ true → (self.new.closed ≡ true) × (F.given shelf.new ≡ F.given shelf.old) }
+        ensures open { IsErrOf result LineFault.Failed → self.new.closed ≡ false }
         ensures cause { IsErrOf result LineFault.Failed → Rose (F.faults shelf.old) (F.faults shelf.new) }
-        ensures at_most { F.given shelf.new ≤ F.given shelf.old + self.old.line_limit + 4096 }
+        ensures at_most { F.given shelf.new + length self.old.waiting ≤ F.given shelf.old + self.old.line_limit + 4096 }
         ensures held { F.held shelf.new ≡ F.held shelf.old }
         ensures later { F.faults shelf.old ≤ F.faults shelf.new }
         ensures end { self.new.closed ≡ true → IsAtEnd (F.rest shelf.new) }

@@ -1,4 +1,4 @@
-//! Runs with large files, and with each failing read and write in turn.
+//! Runs with large files, with each failing read and write in turn, and by lines.
 
 ghost use Rattle.std.specs.Prelude.{◌≡◌};
 
@@ -9,9 +9,10 @@ use pv_text::Bytes;
 use std::alloc::Global;
 use std::process::Abort;
 
-/// How many bytes a read gives, how many standard output takes, and which calls fail.
+/// The command, how many bytes a read gives, how many standard output takes, and which calls fail.
 #[derive(Clone, Copy)]
 struct Setting {
+    command: &'static str,
     piece: usize,
     room: usize,
     failing_read: Option<u64>,
@@ -19,6 +20,7 @@ struct Setting {
 }
 
 const AMPLE: Setting = Setting {
+    command: "validate",
     piece: 100_000,
     room: 10_000,
     failing_read: None,
@@ -35,9 +37,9 @@ struct Left {
 
 const INT: &[u8] = br#"{"type":"int"}"#;
 
-fn validate(rt: &impl Abort, alloc: Global) -> Words {
+fn words_of(rt: &impl Abort, alloc: Global, command: &str) -> Words {
     let mut words = Words::new(alloc);
-    for word in ["validate", "S", "D"] {
+    for word in [command, "S", "D"] {
         words.push(word).expect(rt, "memory");
     }
     words
@@ -75,9 +77,9 @@ fn sink_of(rt: &impl Abort, alloc: Global, room: usize, failing: Option<u64>) ->
     sink
 }
 
-/// What is left where the document is validated by `INT`.
+/// What is left where the command is run with `INT` and the document.
 fn left_by(rt: &impl Abort, alloc: Global, setting: &Setting, document: &[u8]) -> Left {
-    let words = validate(rt, alloc);
+    let words = words_of(rt, alloc, setting.command);
     let mut shelf = shelf_of(rt, alloc, setting, document);
     let mut out = sink_of(rt, alloc, setting.room, setting.failing_write);
     let mut err = sink_of(rt, alloc, 1000, None);
@@ -164,4 +166,69 @@ fn each_failing_write_has_its_answer(rt: HostRuntime) {
         assert_eq!(rt; left.status.code(), status, "{taken}");
         assert_eq!(rt; left.err.taken(), line.as_bytes(), "{taken}");
     }
+}
+
+/// Five lines.
+const LINES: &str = "1\n2\n3\n45\n6\n";
+
+/// Reads of four bytes: the schema takes a pick, four reads and one at the end, and so does the
+/// document with three reads. What standard output took where the first call fails, the second one,
+/// and so on; the last one is not made.
+const BEFORE_FAULTS: [(u8, &str); 12] = [
+    (4, ""),
+    (4, ""),
+    (4, ""),
+    (4, ""),
+    (4, ""),
+    (4, ""),
+    (4, ""),
+    (4, ""),
+    (4, "1\n2\n"),
+    (4, "1\n2\n3\n"),
+    (4, LINES),
+    (0, LINES),
+];
+
+#[test]
+fn lines_are_answered_before_a_fault(rt: HostRuntime) {
+    let alloc = rt.alloc();
+    for (call, (status, out)) in BEFORE_FAULTS.into_iter().enumerate() {
+        let setting = Setting {
+            command: "lines",
+            piece: 4,
+            failing_read: Some(call as u64),
+            ..AMPLE
+        };
+        let left = left_by(&rt, alloc, &setting, LINES.as_bytes());
+        assert_eq!(rt; left.status.code(), status, "{call}");
+        assert_eq!(rt; left.out.taken(), out.as_bytes(), "{call}");
+    }
+}
+
+#[test]
+fn lines_are_the_same_in_pieces_of_any_size(rt: HostRuntime) {
+    let alloc = rt.alloc();
+    for piece in [1, 2, 3, 5, 4096] {
+        let setting = Setting {
+            command: "lines",
+            piece,
+            ..AMPLE
+        };
+        let left = left_by(&rt, alloc, &setting, LINES.as_bytes());
+        assert_eq!(rt; left.status.code(), 0, "{piece}");
+        assert_eq!(rt; left.out.taken(), LINES.as_bytes(), "{piece}");
+    }
+}
+
+#[test]
+fn lines_stop_where_standard_output_is_full(rt: HostRuntime) {
+    let alloc = rt.alloc();
+    let setting = Setting {
+        command: "lines",
+        room: 3,
+        ..AMPLE
+    };
+    let left = left_by(&rt, alloc, &setting, LINES.as_bytes());
+    assert_eq!(rt; left.status.code(), 6);
+    assert_eq!(rt; left.out.taken(), b"1\n2".as_slice());
 }

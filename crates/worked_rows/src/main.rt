@@ -1,6 +1,6 @@
 //! Runs worked rows in memory and prints what each leaves. A row is a line: the words, the schema
-//! file `S` and the document file `D`, with a tab between two of them. The functions are the
-//! shipped ones.
+//! file `S` and the document file `D`, with a tab between two of them. A form feed in a document
+//! stands for a line feed. The functions are the shipped ones.
 #![tactic(auto)]
 
 ghost use Rattle.std.specs.Prelude.{◌≡◌, IfOk};
@@ -11,7 +11,7 @@ use pv_func::{AddFault, AfterFn, BeforeFn, PlainFn, Registry, WrapFn};
 use pv_shipped::{
     Constant, Deepen, Even, Listify, OrNull, Pair, Positive, SplitCommas, Strip, Unhex, Upper,
 };
-use pv_text::{Bytes, Memory, Text};
+use pv_text::{ByteBuf, Bytes, Memory, Text};
 use std::alloc::{AllocFailed, Global};
 use std::io;
 
@@ -54,6 +54,15 @@ fn words_of(alloc: Global, all: &str) -> Result<Words, NoRow> {
     Ok(words)
 }
 
+/// The bytes of a document, in which a form feed stands for a line feed.
+fn document_of(alloc: Global, document: &str) -> Result<Bytes, NoRow> {
+    let mut bytes = ByteBuf::new(alloc);
+    for byte in document.bytes() {
+        bytes.push(if byte == b'\x0C' { b'\n' } else { byte })?;
+    }
+    Ok(Bytes::from_vec(bytes.into_vec()))
+}
+
 /// A shelf with the files `S` and `D`.
 fn shelf_of(alloc: Global, schema: &str, document: &str) -> Result<MemShelf, NoRow>
     ensures given { IfOk result (λ shelf. shelf.given ≡ 0) }
@@ -64,10 +73,7 @@ fn shelf_of(alloc: Global, schema: &str, document: &str) -> Result<MemShelf, NoR
         Text::from_str(alloc, "S")?,
         Bytes::from_slice(alloc, schema.as_bytes())?,
     )?;
-    shelf.put(
-        Text::from_str(alloc, "D")?,
-        Bytes::from_slice(alloc, document.as_bytes())?,
-    )?;
+    shelf.put(Text::from_str(alloc, "D")?, document_of(alloc, document)?)?;
     Ok(shelf)
 }
 

@@ -11,6 +11,7 @@ invariant-loop-at g l =
       room : length l.self.waiting ≤ l.self.line_limit + 4096;
       limit : l.self.line_limit ≤ 2 ^ 30;
       end : l.self.closed ≡ true → IsAtEnd (shelf.rest l.shelf);
+      closed : l.fn.self.closed ≡ true → (l.self.closed ≡ true) × (shelf.given l.shelf ≡ shelf.given l.fn.shelf);
       held : shelf.held l.shelf ≡ shelf.held l.fn.shelf;
       later : shelf.faults l.fn.shelf ≤ shelf.faults l.shelf;
     }
