@@ -16,6 +16,8 @@ mod functions;
 #[cfg(test)]
 mod numbers;
 #[cfg(test)]
+mod picks;
+#[cfg(test)]
 mod plans;
 #[cfg(test)]
 mod runs;
