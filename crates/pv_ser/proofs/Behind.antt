@@ -1,13 +1,13 @@
--- What is read before the rest, and that the rest is read behind it.
-use Rattle.std.proofs.Common.{◌≡◌, List, [], ◌++◌, refl}
-use Rattle.std.specs.Prelude.{Result, Ok, Err}
-use Rattle.pv_ser.specs.Picks.{Way}
+-- What is put of an object's members behind those that are put already.
+use Rattle.std.specs.Prelude.{ℕ, List, ◌++◌, Result, Ok, Err}
+use Rattle.pv_ser.specs.Picks.{Way, Picked, put_all}
 
--- these before what the rest is read as
-abbrev pub behind : {X : Type 0} → List X → Result (List X) Way → Result (List X) Way
-behind done (Ok rest) = Ok (done ++ rest)
+-- these, and then what the rest is read as
+abbrev pub behind : Picked → Result Picked Way → Result Picked Way
+behind done (Ok rest) = Ok (put_all done rest)
 behind done (Err way) = Err way
 
-pub behind_none : {X : Type 0} (r : Result (List X) Way) → behind [] r ≡ r
-behind_none (Ok rest) = refl
-behind_none (Err way) = refl
+-- these names before what the rest is read as
+abbrev pub names_behind : List (List ℕ) → Result (List (List ℕ)) Way → Result (List (List ℕ)) Way
+names_behind done (Ok rest) = Ok (done ++ rest)
+names_behind done (Err way) = Err way

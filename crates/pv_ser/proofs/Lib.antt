@@ -1,4 +1,4 @@
 pub mod Agreeing
 pub mod Behind
 pub mod Levels
-pub mod Listing
+pub mod Lookups

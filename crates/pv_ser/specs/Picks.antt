@@ -2,8 +2,9 @@
 -- object that has each of its names with `true`.
 use Rattle.std.specs.Prelude.{ℕ, ◌+◌, Bool, true, false, if◌then◌else◌, nat_le, ℤ, pos, negsuc, decimal}
 use Rattle.std.specs.Prelude.{List, [], ◌∷◌, map, Option, Some, None, Result, Ok, Err}
+use Rattle.std.specs.BTreeMap.{insert_entry}
 use Rattle.pv_number.specs.WrittenIntegers.{integer}
-use Rattle.pv_tree.specs.Merged.{first_names}
+use Rattle.pv_tree.specs.Merging.{name_cmp}
 use Rattle.pv_tree.specs.declared.Step.{Step}
 use Rattle.pv_tree.specs.declared.Step.TheVariants.{Name, Index}
 use Rattle.pv_tree.specs.declared.Tree.{Tree, fold-Tree}
@@ -66,18 +67,28 @@ abbrev pub items_read : ℕ → List Reading → Result (List (List ℕ)) Way
 items_read place [] = Ok []
 items_read place (r ∷ rs) = item_read place r.as_name (items_read (place + 1) rs)
 
--- each of these names once, all of it
-abbrev pub all_of : List (List ℕ) → Picked
-all_of names = map (λ n. (n, pick.All)) (first_names names)
+-- names put one after the other, each at its place in the order of names; of one that stands twice
+-- the last counts
+abbrev pub put_all : Picked → Picked → Picked
+put_all done [] = done
+put_all done (m ∷ ms) = put_all (insert_entry name_cmp done m.0 m.1) ms
+
+-- names with their picks, in the order of names
+abbrev pub by_name : Picked → Picked
+by_name ms = put_all [] ms
+
+-- a name, all of it
+abbrev pub all_of : List ℕ → List ℕ × Pick
+all_of name = (name, pick.All)
 
 -- a pick of an object
 abbrev pub some_of : Result Picked Way → Result Pick Way
-some_of (Ok ps) = Ok (pick.Some ps)
+some_of (Ok ms) = Ok (pick.Some (by_name ms))
 some_of (Err way) = Err way
 
 -- a pick of a list
 abbrev pub listed : Result (List (List ℕ)) Way → Result Pick Way
-listed (Ok names) = Ok (pick.Some (all_of names))
+listed (Ok names) = Ok (pick.Some (by_name (map all_of names)))
 listed (Err way) = Err way
 
 -- `true` alone is all

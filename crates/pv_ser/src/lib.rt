@@ -2,9 +2,11 @@
 #![tactic(auto)]
 
 mod laws;
+mod name_map;
 mod pick;
 mod reading;
 
-pub use laws::picks_are_read_so;
+pub use laws::{last_picks_are_found, picks_are_read_so};
+pub use name_map::NameMap;
 pub use pick::{Pick, PickFault, Picks};
 pub use reading::read_pick;

@@ -1,9 +1,10 @@
+use crate::name_map::NameMap;
 use pv_text::{Memory, Text};
-use pv_tree::{Loc, Row};
+use pv_tree::Loc;
 use std::alloc::{AllocError, AllocFailed};
 
 /// Names with their picks, each name once, in the order of the document.
-pub type Picks = Row<(Text, Pick)>;
+pub type Picks = NameMap<Pick>;
 
 /// What is picked of a value.
 #[derive(Drop)]

@@ -1,17 +1,17 @@
 //! Trees as picks.
 
 ghost use Rattle.std.specs.Prelude.{◌≡◌, ◌++◌, ◌∷◌, [], map, true, decimal, IfOk, OnOk};
-ghost use Rattle.pv_tree.specs.Merging.{object_of};
 ghost use Rattle.pv_tree.specs.declared.Step.TheVariants.{Name};
 ghost use Rattle.pv_ser.specs.Answers.{Answers, AnswersAs, IsUnder};
 ghost use Rattle.pv_ser.specs.Picks as spec;
 ghost use Rattle.pv_ser.specs.Picks.{reading, with_reading};
 
+use crate::name_map::NameMap;
 use crate::pick::{Pick, PickFault};
 use itoa::Buffer;
 use pv_number::{Lexeme, integer};
 use pv_text::{Memory, Text};
-use pv_tree::{Loc, Members, Row, Step, Tree, merging_keeps_first_places_and_last_values};
+use pv_tree::{Loc, Members, Step, Tree};
 use std::alloc::Global;
 
 /// The greatest count.
@@ -95,27 +95,15 @@ fn read_names(alloc: Global, items: &[Tree]) -> Result<Vec<Text>, PickFault>
     Ok(names)
 }
 
-/// The object that has each of these names with `true`.
-fn object_with(alloc: Global, names: &[Text]) -> Result<Tree, Memory>
-    ensures { IfOk result (λ t.
-        t ≡ Tree.Object (object_of (map (λ n. (n, Tree.Bool true)) names.now))) }
+/// These names, all of each.
+fn all_of(alloc: Global, names: Vec<Text>) -> Result<Pick, Memory>
+    ensures { IfOk result (λ p. p ≡ Pick.Some (spec.by_name (map spec.all_of names.items))) }
 {
-    let mut members = Vec::with_capacity(alloc, names.len())?;
+    let mut picks = NameMap::new(alloc);
     for name in names {
-        members.push((name.share(alloc)?, Tree::Bool(true)))?;
+        picks.put(name, Pick::All)?;
     }
-    Tree::object(alloc, members)
-}
-
-/// All that these names have.
-fn all_of(alloc: Global, members: &[(Text, Tree)]) -> Result<Pick, Memory>
-    ensures { IfOk result (λ p. p ≡ Pick.Some (map (λ m. (m.0, Pick.All)) members.now)) }
-{
-    let mut picks = Vec::with_capacity(alloc, members.len())?;
-    for (name, _) in members {
-        picks.push((name.share(alloc)?, Pick::All))?;
-    }
-    Ok(Pick::Some(Row::from_vec(alloc, picks)?))
+    Ok(Pick::Some(picks))
 }
 
 /// A list stands for the object that has each of its names with `true`.
@@ -123,20 +111,7 @@ fn read_list(alloc: Global, items: &[Tree]) -> Result<Pick, PickFault>
     ensures { Answers result (spec.listed (spec.items_read 0 (map reading items.now))) }
 {
     let names = read_names(alloc, items)?;
-    merging_keeps_first_places_and_last_values();
-    let object = object_with(alloc, names.as_slice())?;
-    match object.as_object() {
-        Some(members) => Ok(all_of(alloc, members)?),
-        None => Ok(Pick::All),
-    }
-}
-
-/// Adds a name with its pick.
-fn put(alloc: Global, picks: &mut Vec<(Text, Pick)>, name: &Text, pick: Pick) -> Result<(), Memory>
-    ensures { OnOk result (picks.new.items ≡ picks.old.items ++ (name.now, pick) ∷ []) }
-{
-    picks.push((name.share(alloc)?, pick))?;
-    Ok(())
+    Ok(all_of(alloc, names)?)
 }
 
 /// The members of an object in their order, up to the first whose value is no pick.
@@ -144,14 +119,14 @@ fn put(alloc: Global, picks: &mut Vec<(Text, Pick)>, name: &Text, pick: Pick) ->
 fn read_members(alloc: Global, members: &Members) -> Result<Pick, PickFault>
     ensures { Answers result (spec.some_of (spec.members_read (map with_reading members.now.members))) }
 {
-    let mut picks = Vec::with_capacity(alloc, members.len())?;
+    let mut picks = NameMap::new(alloc);
     for (name, value) in members.as_slice() {
         match read_pick(alloc, value) {
-            Ok(pick) => put(alloc, &mut picks, name, pick)?,
+            Ok(pick) => picks.put(name.share(alloc)?, pick)?,
             Err(fault) => return Err(under_name(alloc, fault, name)),
         }
     }
-    Ok(Pick::Some(Row::from_vec(alloc, picks)?))
+    Ok(Pick::Some(picks))
 }
 
 /// The pick that a tree is.
