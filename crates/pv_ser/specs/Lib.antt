@@ -1,4 +1,6 @@
 pub mod Answers
+pub mod Force
 pub mod Names
 pub mod Picks
+pub mod Seen
 pub mod formers

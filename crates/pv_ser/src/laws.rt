@@ -1,9 +1,10 @@
 //! What holds of picks. These functions do nothing: their contracts are the laws.
 
-ghost use Rattle.std.specs.Prelude.{◌≡◌, ℕ, List, is_ok, is_some};
+ghost use Rattle.std.specs.Prelude.{◌≡◌, ℕ, List, Some, None, true, is_ok, is_some};
 ghost use Rattle.pv_tree.specs.Merged.{last_value};
 ghost use Rattle.pv_tree.specs.declared.Tree.{Tree};
 ghost use Rattle.pv_pick.specs.Picks.{is_item, is_pick};
+ghost use Rattle.pv_ser.specs.Force.{InForce, at_part, at_root, is_left_out};
 ghost use Rattle.pv_ser.specs.Names.{value_under};
 ghost use Rattle.pv_ser.specs.Picks.{Picked, by_name, name_at, pick_read};
 
@@ -17,4 +18,12 @@ pub fn picks_are_read_so()
 #[tactic(auto, using(crate::proofs::Lookups::last_is_found))]
 pub fn last_picks_are_found()
     ensures { (ms : Picked) (name : List ℕ) → value_under name (by_name ms) ≡ last_value ms name }
+{}
+
+/// Without picks each part is kept. A part that is excluded is left out whatever is included.
+#[tactic(auto, using(crate::proofs::Excluding::excluded))]
+pub fn excluded_parts_are_left_out()
+    ensures all { (name : List ℕ) → at_part name (at_root None None) ≡ Some (at_root None None) }
+    ensures excluded { (name : List ℕ) (f : InForce) →
+        is_left_out name f.exclude ≡ true → at_part name f ≡ None }
 {}

@@ -1,7 +1,7 @@
-use crate::fixtures::{cut, tree};
+use crate::fixtures::{cut, text, tree};
 use pv_notation::{write_loc, write_tree};
-use pv_ser::{Pick, PickFault, Picks, read_pick};
-use pv_text::ByteBuf;
+use pv_ser::{InForce, Pick, PickFault, Picks, read_pick};
+use pv_text::{ByteBuf, Text};
 use pv_tree::{Members, Tree};
 use std::alloc::Global;
 use std::process::Abort;
@@ -28,6 +28,81 @@ null []
 [1.0] [0]
 [1e0] [0]
 [{"a":true}] [0]"#;
+
+/// What is included and what is excluded, the names that lead to a part of the value, and whether the
+/// part is kept. `-` is no pick.
+const KEPT: &str = r#"- - a yes
+- - a.0.b yes
+true - a.b yes
+- true a yes
+{} - a no
+[] - a no
+["a"] - a yes
+["a"] - b no
+["a"] - a.b yes
+- ["a"] a no
+- ["a"] b yes
+- {"a":["b"]} a yes
+- {"a":["b"]} a.b no
+- {"a":["b"]} b.b yes
+{"a":["b"]} - a.b yes
+{"a":["b"]} - a.c no
+["a"] ["a"] a no
+{"a":true,"b":true} {"a":["x"]} a.x no
+{"a":true,"b":true} {"a":["x"]} a.y yes
+[0,2] - 0 yes
+[0,2] - 1 no
+- [1] 1 no
+- [1] 10 yes
+{"__all__":["id"]} - 0.id yes
+{"__all__":["id"]} - 7.name no
+{"__all__":["id"],"7":["name"]} - 7.name yes
+{"__all__":["id"],"7":["name"]} - 7.id yes
+{"__all__":["id"],"7":["name"]} - 8.name no
+- {"__all__":["id"]} 0.id no
+- {"__all__":["id"],"3":true} 3 no
+- {"__all__":true} x no
+["__all__"] - x yes"#;
+
+/// The pick that is written, or none.
+fn pick_of(rt: &impl Abort, alloc: Global, word: &str) -> Option<Pick> {
+    if word == "-" {
+        return None;
+    }
+    match read_pick(alloc, &tree(rt, alloc, word.as_bytes())) {
+        Ok(pick) => Some(pick),
+        Err(_) => panic!(rt; "a pick"),
+    }
+}
+
+/// Whether the part is kept to which these names lead.
+fn is_kept(rt: &impl Abort, alloc: Global, include: &str, exclude: &str, names: &str) -> bool {
+    let include = pick_of(rt, alloc, include);
+    let exclude = pick_of(rt, alloc, exclude);
+    let each = Text::from_str(alloc, "__all__").expect(rt, "memory");
+    let mut in_force = InForce::at_root(alloc, include.as_ref(), exclude.as_ref()).expect(
+        rt, "memory",
+    );
+    for name in names.split('.') {
+        let name = text(rt, alloc, name);
+        let Some(part) = in_force.at_part(alloc, &name, &each).expect(rt, "memory") else {
+            return false;
+        };
+        in_force = part;
+    }
+    true
+}
+
+#[test]
+fn picks_keep_parts(rt: HostRuntime) {
+    let alloc = rt.alloc();
+    for row in KEPT.lines() {
+        let (include, rest) = cut(&rt, row);
+        let (exclude, rest) = cut(&rt, rest);
+        let (names, want) = cut(&rt, rest);
+        assert_eq!(rt; is_kept(&rt, alloc, include, exclude, names), want == "yes");
+    }
+}
 
 /// Whether picks have the names of these members and no others, under each what it has there.
 #[cycle(read)]

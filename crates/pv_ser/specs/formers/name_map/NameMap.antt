@@ -12,7 +12,6 @@ use denote.Hole.Fix.{over}
 use denote.Param.Weighed.{Weighed, w_list, w_pair, w_const}
 use denote.Model.Placed.{view_places}
 use Rattle.std_collections.specs.formers.btree_map.BTreeMap as btree
-use Rattle.std.specs.BTreeMap.{BTreeMap}
 use Rattle.std.specs.declared.alloc.Global.{Global}
 use Rattle.std.specs.contracts.alloc.Global as heap
 use Rattle.std.specs.contracts.impls.GlobalAllocator.TheImpl as given
