@@ -1,5 +1,5 @@
 -- The picks in force at an array or an object, which keep its parts or leave them out.
-use Rattle.std.specs.Prelude.{ℕ, nat_eq, length, Bool, true, false, not, ◌||◌, ◌&&◌, if◌then◌else◌, List, [], ◌∷◌, ◌++◌, codes, Option, Some, None, is_some}
+use Rattle.std.specs.Prelude.{ℕ, nat_eq, length, Bool, true, false, not, ◌||◌, ◌&&◌, if◌then◌else◌, List, [], ◌∷◌, ◌++◌, codes, bytes_eq, Option, Some, None, is_some}
 use Rattle.std.specs.List.{flat_map, list_any}
 use Rattle.pv_ser.specs.Names.{value_under}
 use Rattle.pv_ser.specs.declared.pick.Pick.{Pick, out-Pick}
@@ -32,9 +32,10 @@ abbrev pub if_there : Option Pick → List Pick
 if_there None = []
 if_there (Some p) = p ∷ []
 
--- what a pick has for a part of this name
+-- what a pick has for a part of this name, each pick once
 abbrev pub for_part : List ℕ → Pick → List Pick
-for_part name p = if_there (under name p) ++ if_there (under each_part p)
+for_part name p =
+    (if bytes_eq name each_part then [] else if_there (under name p)) ++ if_there (under each_part p)
 
 -- what these picks have for it
 abbrev pub inside : List ℕ → List Pick → List Pick

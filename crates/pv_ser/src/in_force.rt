@@ -38,6 +38,24 @@ fn add_under<'a>(pick: &'a Pick, name: &Text, found: &mut Vec<&'a Pick>) -> Resu
     Ok(())
 }
 
+/// Adds what a pick has for a part of this name. Where the part has the name that stands for each
+/// part, its pick is added once, so that picks do not double from level to level.
+fn add_for_part<'a>(
+    pick: &'a Pick,
+    name: &Text,
+    each: &Text,
+    found: &mut Vec<&'a Pick>,
+) -> Result<(), Memory>
+    requires { each.now ≡ each_part }
+    ensures { OnOk result (map (λ r. r.now) found.new.items ≡
+        map (λ r. r.now) found.old.items ++ spec.for_part name.now pick.now) }
+{
+    if name != each {
+        add_under(pick, name, found)?;
+    }
+    add_under(pick, each, found)
+}
+
 /// What picks have for a part of this name. No memory is asked for where there are no picks.
 fn inside<'a>(
     alloc: Global,
@@ -50,8 +68,7 @@ fn inside<'a>(
 {
     let mut found = Vec::new(alloc);
     for pick in picks {
-        add_under(pick, name, &mut found)?;
-        add_under(pick, each, &mut found)?;
+        add_for_part(pick, name, each, &mut found)?;
     }
     Ok(found)
 }

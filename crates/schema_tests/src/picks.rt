@@ -62,7 +62,9 @@ true - a.b yes
 - {"__all__":["id"]} 0.id no
 - {"__all__":["id"],"3":true} 3 no
 - {"__all__":true} x no
-["__all__"] - x yes"#;
+["__all__"] - x yes
+{"__all__":["x"]} - __all__.x yes
+- {"__all__":["x"]} __all__.x no"#;
 
 /// The pick that is written, or none.
 fn pick_of(rt: &impl Abort, alloc: Global, word: &str) -> Option<Pick> {
